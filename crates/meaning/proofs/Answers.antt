@@ -1,0 +1,42 @@
+-- Laws of answers. Assumes nothing.
+use Prim.Native.Nat.{ℕ}
+use mathlib.Core.Path.{_≡_, refl, subst}
+use mathlib.Core.Bool.{Bool, true, false}
+use native.Mathlib.Omega.{arith}
+use Rattle.meaning.specs.Answer.{Answer, given, refused, bind, need}
+use Rattle.meaning.specs.Limits.{fault}
+
+pub not-given : {A : Type 0} (e : ℕ) (a : A) → refused e ≡ given a → ⊥
+not-given e a q = let z : _≡_ {A = ℕ} 0 1 = cc in omega arith
+
+module _ {A B : Type 0} where
+  -- what gives, gave at each step
+  pub bind-given : (m : Answer A) (k : A → Answer B) (b : B) → bind m k ≡ given b → (a : A) × (m ≡ given a) × (k a ≡ given b)
+  bind-given (given a) k b e = (a, refl, e)
+  bind-given (refused r) k b e = absurd (not-given r b e)
+
+  -- the same with another way to go on, where that agrees on what is given
+  pub bind-cong : (m : Answer A) (j k : A → Answer B) → ((a : A) → m ≡ given a → j a ≡ k a) → bind m j ≡ bind m k
+  bind-cong (given a) j k h = h a refl
+  bind-cong (refused r) j k h = refl
+
+module _ {A : Type 0} where
+  pub need-given : (b : Bool) (e : ℕ) (m : Answer A) (a : A) → need b e m ≡ given a → (b ≡ true) × (m ≡ given a)
+  need-given true e m a q = (refl, q)
+  need-given false e m a q = absurd (not-given e a q)
+
+-- the one refusal of a body is 9
+abbrev pub Faulty : {A : Type 0} → Answer A → Type 0
+Faulty (given a) = Unit {0}
+Faulty (refused e) = e ≡ fault
+
+pub bind-faulty : {A B : Type 0} (m : Answer A) (k : A → Answer B) → Faulty m → ((a : A) → Faulty (k a)) → Faulty (bind m k)
+bind-faulty (given a) k h j = j a
+bind-faulty (refused e) k h j = h
+
+pub need-faulty : {A : Type 0} (b : Bool) (m : Answer A) → Faulty m → Faulty (need b fault m)
+need-faulty true m h = h
+need-faulty false m h = refl
+
+pub refused-faulty : {A : Type 0} (m : Answer A) (e : ℕ) → Faulty m → m ≡ refused e → e ≡ fault
+refused-faulty m e h q = subst Faulty q h

@@ -1,0 +1,36 @@
+-- What is proved of every code. Assumes nothing.
+use Prim.Native.Nat.{ℕ, _≤_, _<_}
+use mathlib.Core.Path.{_≡_, ap, _∙_}
+use mathlib.Core.List.{List, []}
+use lib.ListN.{length, getD}
+use Rattle.meaning.specs.Answer.{Answer, given, bind}
+use Rattle.meaning.specs.Limits.{numberLimit}
+use Rattle.meaning.specs.Places.{Below}
+use Rattle.meaning.specs.Codes.{Code, readCode, lookCode}
+use Rattle.meaning.proofs.Answers.{bind-given}
+use Rattle.meaning.proofs.Units.{Good, look-read}
+
+-- what reads as a list is what is written from it, byte for byte; the list has n numbers, each below 2^32
+pub record Read (c : Code) (body : List ℕ) (n : ℕ) (xs : List ℕ) : Type 0 where
+  pub bytes : c .write xs ≡ body
+  pub many : length xs ≡ n
+  pub small : Below numberLimit xs
+
+pub record Lawful (c : Code) : Type 0 where
+  -- a unit holds a number at least, and none beyond the list
+  pub good : (body : List ℕ) → Below 256 body → Good (c .unit body)
+  -- (a) reading what was written gives the list
+  pub forth : (xs : List ℕ) → Below numberLimit xs → readCode c (c .write xs) (length xs) ≡ given xs
+  -- (b) and back
+  pub back : (body : List ℕ) (n : ℕ) (xs : List ℕ) → Below 256 body → readCode c body n ≡ given xs → Read c body n xs
+  -- (d) the written length is at most the worst size; and what is written are bytes
+  pub most : (xs : List ℕ) → Below numberLimit xs → length (c .write xs) ≤ c .worst (length xs)
+  pub bytes : (xs : List ℕ) → Below numberLimit xs → Below 256 (c .write xs)
+
+-- (c) where reading succeeds, a lookup at every place gives the number there, whatever the code
+pub look-code : (c : Code) (body : List ℕ) (n : ℕ) (xs : List ℕ) → readCode c body n ≡ given xs → (place : ℕ) → place < length xs
+    → lookCode c body n place ≡ given (getD xs place 0)
+unfolding readCode lookCode
+look-code c body n xs e place h =
+    let (p, ep, er) = bind-given (c .start body n) _ xs e in
+    rw ep (look-read (c .unit body) (c .joins) (c .done body) n [] p xs er place h)

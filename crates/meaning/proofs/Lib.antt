@@ -1,0 +1,9 @@
+-- Laws of the meaning that every crate cites, and the document's examples.
+pub mod Answers
+pub mod Tests
+pub mod Bounds
+pub mod Stores
+pub mod Units
+pub mod Loops
+pub mod Lawful
+pub mod Examples

@@ -1,0 +1,110 @@
+-- The six codes, each as what it takes to write a list, to read units and to tell the worst size. Strict reading and lookup are the same for all.
+use Prim.Native.Nat.{ℕ, _+_, _*_, _/_}
+use mathlib.Core.Bool.{Bool, true, _&&_, cond}
+use mathlib.Core.List.{List, [], _∷_}
+use lib.Dec.{leb, eqb}
+use lib.ListN.{length}
+use Rattle.meaning.specs.Answer.{Answer, given, refused, bind, need}
+use Rattle.meaning.specs.Limits.{fault}
+use Rattle.meaning.specs.Lists.{joined}
+use Rattle.meaning.specs.Positions.{atByte, atControl, atBit}
+use Rattle.meaning.specs.Units.{readUnits, lookUnits}
+use Rattle.meaning.specs.VByte.{vbyte, unitVByte}
+use Rattle.meaning.specs.Groups.{groupCount, writeGroups, writeStream, unitGroups, unitStream}
+use Rattle.meaning.specs.G8IU.{writeG8IU, unitG8IU, joinsG8IU}
+use Rattle.meaning.specs.Elias.{writeGamma, writeDelta, gammaWord, deltaWord, unitElias, doneElias}
+use Rattle.meaning.specs.declared.Position.{Position}
+
+pub record Code : Type 0 where
+  -- the bytes of a list, and how many they are at worst for n numbers
+  pub write : List ℕ → List ℕ
+  pub worst : ℕ → ℕ
+  -- where the first unit of n numbers begins in a body
+  pub start : List ℕ → ℕ → Answer Position
+  -- the unit at a position of a body, where so many numbers are still to come
+  pub unit : List ℕ → ℕ → Position → Answer (Position × List ℕ)
+  -- in reading: whether a unit may follow another, and whether nothing is left over
+  pub joins : List ℕ → List ℕ → Bool
+  pub done : List ℕ → Position → Bool
+
+-- a body whose first unit begins with its first byte, and which ends with its last unit
+abbrev pub fromFirst : List ℕ → ℕ → Answer Position
+fromFirst body n = given (atByte 0)
+
+abbrev pub toLast : List ℕ → Position → Bool
+toLast body p = eqb (p .head .byte) (length body)
+
+abbrev pub always : List ℕ → List ℕ → Bool
+always before numbers = true
+
+abbrev pub codeVByte : Code
+codeVByte =
+    record { write = joined vbyte; worst = λ n. 5 * n; start = fromFirst; unit = unitVByte; joins = always; done = toLast }
+
+-- codes 2 and 4: 4n plus n/4 rounded up
+abbrev pub worstGroups : ℕ → ℕ
+worstGroups n = 4 * n + groupCount n
+
+abbrev pub codeGroups : Code
+codeGroups =
+    record { write = writeGroups; worst = worstGroups; start = fromFirst; unit = unitGroups; joins = always; done = toLast }
+
+-- n/2 rounded up, then times 9
+abbrev pub codeG8IU : Code
+codeG8IU =
+    record { write = writeG8IU; worst = λ n. (n + 1) / 2 * 9; start = fromFirst; unit = unitG8IU; joins = joinsG8IU; done = toLast }
+
+-- Stream VByte's control bytes must fit the body
+abbrev pub codeStream : Code
+codeStream =
+    record {
+      write = writeStream;
+      worst = worstGroups;
+      start = λ body n. need (leb (groupCount n) (length body)) fault (given (atControl 0 (groupCount n)));
+      unit = unitStream;
+      joins = always;
+      done = λ body p. eqb (p .tail .byte) (length body);
+    }
+
+-- 65n/8 and 43n/8, rounded up
+abbrev pub codeGamma : Code
+codeGamma =
+    record {
+      write = writeGamma;
+      worst = λ n. (65 * n + 7) / 8;
+      start = λ body n. given (atBit 0);
+      unit = unitElias gammaWord;
+      joins = always;
+      done = doneElias;
+    }
+
+abbrev pub codeDelta : Code
+codeDelta =
+    record {
+      write = writeDelta;
+      worst = λ n. (43 * n + 7) / 8;
+      start = λ body n. given (atBit 0);
+      unit = unitElias deltaWord;
+      joins = always;
+      done = doneElias;
+    }
+
+-- 1 VByte, 2 group of four, 3 G8IU, 4 Stream VByte, 5 gamma, 6 delta
+unfoldable pub isCode : ℕ → Bool
+isCode c = leb 1 c && leb c 6
+
+unfoldable pub codeOf : ℕ → Code
+codeOf c =
+    cond (eqb c 1) codeVByte
+    (cond (eqb c 2) codeGroups
+    (cond (eqb c 3) codeG8IU
+    (cond (eqb c 4) codeStream
+    (cond (eqb c 5) codeGamma codeDelta))))
+
+-- the strict reading of n numbers from a body
+unfoldable pub readCode : Code → List ℕ → ℕ → Answer (List ℕ)
+readCode c body n = bind (c .start body n) (readUnits (c .unit body) (c .joins) (c .done body) n [])
+
+-- the number at a place of n
+unfoldable pub lookCode : Code → List ℕ → ℕ → ℕ → Answer ℕ
+lookCode c body n place = bind (c .start body n) (lookUnits (c .unit body) n place)

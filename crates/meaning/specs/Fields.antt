@@ -1,0 +1,28 @@
+-- What codes 2, 3 and 4 share: numbers in the fewest bytes, 1 to 4 each, least significant first.
+use Prim.Native.Nat.{ℕ, _+_, _^_}
+use mathlib.Core.Bool.{Bool, cond}
+use mathlib.Core.List.{List, [], _∷_}
+use lib.Dec.{ltb, eqb}
+use lib.ListN.{take, drop}
+use Rattle.meaning.specs.Answer.{Answer, given, refused, bind, need}
+use Rattle.meaning.specs.Limits.{fault}
+use Rattle.meaning.specs.Lists.{joined}
+use Rattle.meaning.specs.Bytes.{bytesOf, numberOf}
+
+-- how many bytes hold x: zero takes one
+unfoldable pub byteLength : ℕ → ℕ
+byteLength x = cond (ltb x (2 ^ 8)) 1 (cond (ltb x (2 ^ 16)) 2 (cond (ltb x (2 ^ 24)) 3 4))
+
+unfoldable pub fewest : ℕ → List ℕ
+fewest x = bytesOf (byteLength x) x
+
+-- the data bytes of a list
+unfoldable pub fields : List ℕ → List ℕ
+fields xs = joined fewest xs
+
+-- the numbers in fields of these lengths, refused where fewer bytes would hold one
+unfoldable pub fieldsIn : List ℕ → List ℕ → Answer (List ℕ)
+fieldsIn [] bytes = given []
+fieldsIn (l ∷ ls) bytes =
+    need (eqb (byteLength (numberOf (take l bytes))) l) fault
+    (bind (fieldsIn ls (drop l bytes)) (λ xs. given (numberOf (take l bytes) ∷ xs)))

@@ -1,0 +1,20 @@
+-- The meaning of document 01, in its order. docs/MEANING.md says which sentence each definition says.
+pub mod Answer
+pub mod Limits
+pub mod Lists
+pub mod Bytes
+pub mod Positions
+pub mod Units
+pub mod VByte
+pub mod Fields
+pub mod Groups
+pub mod G8IU
+pub mod Bits
+pub mod Elias
+pub mod Codes
+pub mod Plan
+pub mod Stages
+pub mod Sheet
+pub mod Operations
+pub mod Says
+pub mod Places

@@ -1,0 +1,77 @@
+-- Limits, kinds and refusal numbers.
+use Prim.Native.Nat.{ℕ, _^_}
+
+-- numbers are unsigned 32-bit: each is below this
+abbrev pub numberLimit : ℕ
+numberLimit = 2 ^ 32
+
+abbrev pub mostColumns : ℕ
+mostColumns = 16
+
+abbrev pub mostNumbers : ℕ
+mostNumbers = 1024
+
+abbrev pub mostBytes : ℕ
+mostBytes = 65536
+
+abbrev pub planBytes : ℕ
+planBytes = 15
+
+-- a plan's depth is at most 4, its code counting 1: so many stages may stand over a code
+abbrev pub mostStages : ℕ
+mostStages = 3
+
+-- kind 0 is any, kind 1 is rising
+abbrev pub any : ℕ
+any = 0
+
+abbrev pub rising : ℕ
+rising = 1
+
+-- sheet below 2 or above 65,536 bytes, byte 0 not 1, over 16 columns
+abbrev pub noSheet : ℕ
+noSheet = 1
+
+-- table cut short, kind above 1, count above 1,024, body lengths not filling the rest
+abbrev pub badTable : ℕ
+badTable = 2
+
+-- malformed plan
+abbrev pub badPlan : ℕ
+badPlan = 3
+
+-- plan not passed for its kind
+abbrev pub unfitPlan : ℕ
+unfitPlan = 4
+
+-- no such column
+abbrev pub noColumn : ℕ
+noColumn = 5
+
+-- place not below the count
+abbrev pub noPlace : ℕ
+noPlace = 6
+
+-- output shorter than the answer, or a written sheet would pass 65,536 bytes
+abbrev pub noRoom : ℕ
+noRoom = 7
+
+-- work slice too short
+abbrev pub shortWork : ℕ
+shortWork = 8
+
+-- fault in a body
+abbrev pub fault : ℕ
+fault = 9
+
+-- writing: a list of kind 1 falls
+abbrev pub falls : ℕ
+falls = 10
+
+-- over 16 orders, kind above 1, count above 1,024, counts not summing to the joined slice
+abbrev pub badOrders : ℕ
+badOrders = 11
+
+-- board rules broken
+abbrev pub badBoard : ℕ
+badBoard = 12

@@ -1,0 +1,37 @@
+-- Reading a body unit by unit, for any code. `unit left p` reads the unit at position p where `left` numbers are still to come, and answers with
+-- where the next unit begins and with its numbers, or the refusal. Every unit holds a number at least, so there are no more units than numbers:
+-- the first argument of `readFrom` and `lookFrom` counts them down.
+use Prim.Native.Nat.{ℕ, zero, suc, _-_}
+use mathlib.Core.Bool.{Bool, cond}
+use mathlib.Core.List.{List, [], _++_}
+use lib.Dec.{ltb}
+use lib.ListN.{length, getD}
+use Rattle.meaning.specs.Answer.{Answer, given, refused, bind, need}
+use Rattle.meaning.specs.Limits.{fault}
+
+-- `joins before numbers`: a unit of these numbers may follow one of those; `done p`: nothing is left over at p
+module _ {P : Type 0} (unit : ℕ → P → Answer (P × List ℕ)) (joins : List ℕ → List ℕ → Bool) (done : P → Bool) where
+  unfoldable pub readFrom : ℕ → ℕ → List ℕ → P → Answer (List ℕ)
+  readFrom zero zero before p = need (done p) fault (given [])
+  readFrom zero (suc n) before p = refused fault
+  readFrom (suc units) zero before p = need (done p) fault (given [])
+  readFrom (suc units) (suc n) before p =
+      bind (unit (suc n) p) (λ u.
+      need (joins before (u .1)) fault
+      (bind (readFrom units (suc n - length (u .1)) (u .1) (u .0)) (λ xs. given (u .1 ++ xs))))
+
+  -- the strict reading of n numbers from p on, after a unit of the numbers `before`: every unit, and then nothing left over
+  unfoldable pub readUnits : ℕ → List ℕ → P → Answer (List ℕ)
+  readUnits n before p = readFrom n n before p
+
+module _ {P : Type 0} (unit : ℕ → P → Answer (P × List ℕ)) where
+  unfoldable pub lookFrom : ℕ → ℕ → ℕ → P → Answer ℕ
+  lookFrom zero left place p = refused fault
+  lookFrom (suc units) left place p =
+      bind (unit left p) (λ u.
+      cond (ltb place (length (u .1))) (given (getD (u .1) place 0))
+      (lookFrom units (left - length (u .1)) (place - length (u .1)) (u .0)))
+
+  -- the number at a place of n: units from the first through the one that holds the place, and nothing after
+  unfoldable pub lookUnits : ℕ → ℕ → P → Answer ℕ
+  lookUnits n place p = lookFrom n n place p

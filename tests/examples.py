@@ -1,0 +1,362 @@
+"""Runs every marked example of the document, its listing example, each of its "Errors seen in
+earlier code" and the decisions 1 to 13 against the reading.  Exit status 1 if any differ."""
+
+import sys
+sys.dont_write_bytecode = True
+import reading as r
+
+CASES = []
+MAX = 4294967295
+
+
+def case(name, got, expected):
+    CASES.append((name, got, expected))
+
+
+def hexa(text):
+    return bytes.fromhex(text)
+
+
+def of(f, *args):
+    """The answer of f, or ('refused', number)."""
+    try:
+        return f(*args)
+    except r.Refused as e:
+        return ("refused", e.number)
+
+
+def named(f, *args):
+    """The answer of f, or ('refused', number, column)."""
+    try:
+        return f(*args)
+    except r.Refused as e:
+        return ("refused", e.number, e.column)
+
+
+def plan(*numbers):
+    """A plan zero-filled to 15."""
+    return bytes(numbers) + bytes(15 - len(numbers))
+
+
+def tree(*numbers):
+    return r.parse_plan(plan(*numbers))
+
+
+def sheet(*columns):
+    """A sheet as it stands, nothing judged: columns (kind, plan15, count, body)."""
+    table = b"".join(bytes([kind]) + p + r.u32(count) + r.u32(len(body))
+                     for kind, p, count, body in columns)
+    return bytes([1, len(columns)]) + table + b"".join(column[3] for column in columns)
+
+
+def code_example(name, code, numbers, text):
+    """Written, read back, and looked up at every place."""
+    body = hexa(text)
+    case(name + " written", r.write_code(code, numbers), body)
+    case(name + " read", of(r.read_code, code, body, len(numbers)), numbers)
+    case(name + " looked up",
+         [of(r.lookup_code, code, body, len(numbers), i) for i in range(len(numbers))], numbers)
+
+
+def plan_example(name, t, numbers, text):
+    body = hexa(text)
+    case(name + " written", r.write_plan(t, numbers), body)
+    case(name + " read", of(r.read_plan, t, body, len(numbers)), numbers)
+    case(name + " looked up",
+         [of(r.lookup_plan, t, body, len(numbers), i) for i in range(len(numbers))], numbers)
+
+
+R = lambda number: ("refused", number)
+NONE = bytes(15)
+
+# ------------------------------------------------------------ marked examples
+
+code_example("* VByte 32", 1, [32], "20")
+code_example("* VByte 128", 1, [128], "80 01")
+code_example("* VByte 4294967295", 1, [MAX], "FF FF FF FF 0F")
+case("VByte 80 00 read", of(r.read_code, 1, hexa("80 00"), 1), R(9))
+case("VByte 80 00 looked up", of(r.lookup_code, 1, hexa("80 00"), 1, 0), R(9))
+case("VByte fifth byte 10 read", of(r.read_code, 1, hexa("FF FF FF FF 10"), 1), R(9))
+case("VByte fifth byte 10 looked up", of(r.lookup_code, 1, hexa("FF FF FF FF 10"), 1, 0), R(9))
+EIGHT = [1024, 12, 10, 1073741824, 1, 2, 3, 1024]
+code_example("* Stream VByte of 001", 4, EIGHT, "C1 40 00 04 0C 0A 00 00 00 40 01 02 03 00 04")
+code_example("* groups of 001", 2, EIGHT, "C1 00 04 0C 0A 00 00 00 40 40 01 02 03 00 04")
+code_example("* G8IU 1, 2, 3, 1024", 3, [1, 2, 3, 1024], "E8 01 02 03 00 04 00 00 00")
+code_example("* gamma 6, 5", 5, [6, 5], "39 80")
+code_example("* gamma 4294967295", 5, [MAX], "00 00 00 00 80 00 00 00 00")
+code_example("* delta 6", 6, [6], "78")
+code_example("* delta 4294967295", 6, [MAX], "04 20 00 00 00 00")
+plan_example("* plan 18 1 1 on 7, 7, 7, 9", tree(18, 1, 1), [7, 7, 7, 9],
+             "02 00 00 00 02 00 00 00 07 09 03 01")
+plan_example("* plan 16 1 on 1000, 1002", tree(16, 1), [1000, 1002], "E8 03 00 00 00 02")
+case("plan 16 1 ending 01 02", of(r.read_plan, tree(16, 1), hexa("E8 03 00 00 01 02"), 2), R(9))
+case("plan 16 16 16 1", r.judge(0, plan(16, 16, 16, 1)), 0)
+case("plan 16 16 16 16", r.judge(0, plan(16, 16, 16, 16)), 3)
+case("plan 16 16 16 16 1", r.judge(0, plan(16, 16, 16, 16, 1)), 3)
+case("plan 17 1 under kind 0", r.judge(0, plan(17, 1)), 4)
+case("sheet 01 00 passes", named(r.check, hexa("01 00"), 0), None)
+case("sheet 01 00 written", of(r.write, [], [], 0, 2), hexa("01 00"))
+
+LISTED = hexa("01 01" "01 11 01" + 13 * "00" + "03 00 00 00 04 00 00 00" "05 00 80 01")
+LISTING = b"""columns 1
+column 0 rising plan 17 1 count 3 bytes 4
+0 5
+1 5
+2 133
+end
+"""
+case("listing example", r.listing(LISTED), LISTING)
+case("listing example written", of(r.write, [(1, NONE, 3)], [5, 5, 133], 21, 30), LISTED)
+case("listing example read", of(r.read, LISTED, 0, 21, 3), [5, 5, 133])
+case("listing example fetched", of(r.fetch, LISTED, 0), (26, 4))
+
+# ------------------------------------------------------------ errors seen in earlier code
+
+FIVE = sheet((0, plan(2), 5, hexa("00 01 02 03 04 00 05")))
+case("empty fields: five written", of(r.write, [(0, plan(2), 5)], [1, 2, 3, 4, 5], 35, 99), FIVE)
+case("empty fields: five read", of(r.read, FIVE, 0, 35, 5), [1, 2, 3, 4, 5])
+case("empty fields: place 4", of(r.lookup, FIVE, 0, 4), 5)
+case("empty fields: place 5", of(r.lookup, FIVE, 0, 5), R(6))
+case("empty fields: stream of five", r.write_code(4, [1, 2, 3, 4, 5]), hexa("00 00 01 02 03 04 05"))
+for code, text in ((2, "00 01 02 03 04 %s 05"), (4, "00 %s 01 02 03 04 05")):
+    for control in ("04", "10", "40", "C0"):
+        body = hexa(text % control)
+        name = "empty fields: code %d control %s " % (code, control)
+        case(name + "read", of(r.read_code, code, body, 5), R(9))
+        case(name + "place 3", of(r.lookup_code, code, body, 5, 3), 4)
+        case(name + "place 4", of(r.lookup_code, code, body, 5, 4), R(9))
+
+for code, size in ((5, 9), (6, 6)):
+    body = r.write_code(code, [MAX])
+    case("one added to 4294967295: code %d size" % code, len(body), size)
+    case("one added to 4294967295: code %d read" % code, of(r.read_code, code, body, 1), [MAX])
+    case("one added to 4294967295: code %d of 0" % code, r.write_code(code, [0]), hexa("80"))
+case("gamma v 2^32 + 1", of(r.read_code, 5, hexa("00 00 00 00 80 00 00 00 80"), 1), R(9))
+case("gamma 33 zeros", of(r.read_code, 5, hexa("00 00 00 00 40 00 00 00 00"), 1), R(9))
+case("delta v 2^32 + 1", of(r.read_code, 6, hexa("04 20 00 00 00 20"), 1), R(9))
+case("delta bit length 34", of(r.read_code, 6, hexa("04 40 00 00 00 00"), 1), R(9))
+
+case("end bit of 002: 32 is not A0", r.write_code(1, [32]) == hexa("A0"), False)
+case("end bit of 002: 128 is not 00 81", r.write_code(1, [128]) == hexa("00 81"), False)
+case("end bit of 002: A0 read", of(r.read_code, 1, hexa("A0"), 1), R(9))
+case("end bit of 002: 00 81 read", of(r.read_code, 1, hexa("00 81"), 1), R(9))
+
+ROOM = hexa("E0 01 02 03 04 05 00 00 00" "FE 06 00 00 00 00 00 00 00")
+case("room in a block: written", r.write_code(3, [1, 2, 3, 4, 5, 6]),
+     hexa("C0 01 02 03 04 05 06 00 00"))
+case("room in a block: read", of(r.read_code, 3, ROOM, 6), R(9))
+case("room in a block: looked up", [of(r.lookup_code, 3, ROOM, 6, i) for i in range(6)],
+     [1, 2, 3, 4, 5, 6])
+ROOMY = sheet((0, plan(3), 6, ROOM))
+case("room in a block: check", named(r.check, ROOMY, 48), ("refused", 9, 0))
+case("room in a block: reader", r.calls(ROOMY, 0, 8),
+     [("number", i) for i in range(1, 7)] + 2 * [R(6)])
+code_example("no room in a block", 3, [1, 2, 3, 4, 5, 1 << 24],
+             "E0 01 02 03 04 05 00 00 00" "F7 00 00 00 01 00 00 00 00")
+
+# ------------------------------------------------------------ G8IU blocks by their own rules
+
+for name, text, n in (("no zero bit", "FF 00 00 00 00 00 00 00 00", 1),
+                      ("waste not 0", "FE 06 00 00 00 00 00 00 01", 1),
+                      ("a number beyond the list", "FC 06 07 00 00 00 00 00 00", 1),
+                      ("waste of 4, list goes on", "F0 01 02 03 04 00 00 00 00"
+                                                   "F7 00 00 00 01 00 00 00 00", 5),
+                      ("not fewest bytes", "FD 06 00 00 00 00 00 00 00", 1),
+                      ("block cut short", "FE 06 00 00 00 00 00 00", 1)):
+    case("G8IU " + name + " read", of(r.read_code, 3, hexa(text), n), R(9))
+    case("G8IU " + name + " looked up", of(r.lookup_code, 3, hexa(text), n, 0), R(9))
+
+# ------------------------------------------------------------ decisions 1 to 13
+
+case("1 zeros judged", r.judge(0, NONE), 3)
+case("1 zeros worst", of(r.worst, NONE, 1), R(3))
+case("1 zeros in a table", named(r.check, sheet((0, NONE, 0, b"")), 0), ("refused", 3, 0))
+case("1 zeros in an order, kind 0", of(r.write, [(0, NONE, 1)], [128], 7, 99),
+     sheet((0, plan(1), 1, hexa("80 01"))))
+case("1 zeros in an order, kind 1", of(r.write, [(1, NONE, 2)], [9, 9], 14, 99),
+     sheet((1, plan(17, 1), 2, hexa("09 00"))))
+case("1 worst sheet of zeros", r.worst_sheet([(0, NONE, 3), (1, NONE, 2)]), 2 + 24 + 15 + 24 + 10)
+
+BAD_LATER = sheet((0, plan(1), 1, b"\5"), (0, plan(17, 1), 0, b""), (0, plan(9), 0, b""))
+case("2 another column's plan: read", of(r.read, BAD_LATER, 0, 7, 1), R(4))
+case("2 another column's plan: lookup", of(r.lookup, BAD_LATER, 7, 7), R(4))
+case("2 another column's plan: fetch", of(r.fetch, BAD_LATER, 0), R(4))
+case("2 another column's plan: open", r.open_reader(BAD_LATER, 0), 4)
+case("2 another column's plan: check", named(r.check, BAD_LATER, 0), ("refused", 4, 1))
+case("2 only check and board name", named(r.read, BAD_LATER, 0, 0, 0), ("refused", 4, 0))
+OTHER_BODY = sheet((0, plan(1), 1, b"\x80"), (0, plan(1), 1, b"\5"))
+case("2 another column's body: read", of(r.read, OTHER_BODY, 1, 7, 1), [5])
+case("2 another column's body: lookup", of(r.lookup, OTHER_BODY, 1, 0), 5)
+case("2 another column's body: fetch", of(r.fetch, OTHER_BODY, 0), (50, 1))
+case("2 the body itself: check", named(r.check, OTHER_BODY, 8), ("refused", 9, 0))
+
+case("3 17 9 under kind 0", r.judge(0, plan(17, 9)), 3)
+case("3 18 17 1 0 under kind 0", r.judge(0, plan(18, 17, 1)), 3)
+case("3 kind 2 first", r.judge(2, plan(9)), 11)
+case("3 earlier 4 before later 3", of(r.write, [(0, plan(17, 1), 0), (0, plan(9), 0)], [], 0, 99),
+     R(4))
+
+ONE = [(0, plan(1), 1)]
+case("4 exact size fits", of(r.write, ONE, [5], 7, 27), sheet((0, plan(1), 1, b"\5")))
+case("4 one byte less", of(r.write, ONE, [5], 7, 26), R(7))
+case("4 above 65,536", of(r.write, 16 * [(0, plan(5), 1024)], 16384 * [MAX], 7168, 999999), R(7))
+# 15 columns of VByte that fill a sheet exactly: 15,360 numbers, some of 5 bytes, some of 2
+FULL = 15 * [(0, plan(1), 1024)]
+MORE = 65536 - 2 - 24 * 15 - 15360          # bytes beyond one a number
+EXACT = MORE // 4 * [MAX] + MORE % 4 * [128]
+EXACT += (15360 - len(EXACT)) * [0]
+case("4 exactly 65,536", len(of(r.write, FULL, EXACT, 7168, 65536)), 65536)
+case("4 65,537", of(r.write, FULL, EXACT[:-1] + [128], 7168, 70000), R(7))
+case("4 no orders need no work", of(r.write, [], [], 0, 2), hexa("01 00"))
+
+for code in r.CODES:
+    code_example("5 empty list by code %d" % code, code, [], "")
+    case("5 empty list by code %d, a byte" % code, of(r.read_code, code, b"\0", 0), R(9))
+plan_example("5 empty 16 1", tree(16, 1), [], "00 00 00 00")
+case("5 empty 16 1, nonzero", of(r.read_plan, tree(16, 1), hexa("01 00 00 00"), 0), R(9))
+plan_example("5 empty 17 1", tree(17, 1), [], "")
+plan_example("5 empty 18 16 1 1", tree(18, 16, 1, 1), [], "00000000 04000000 00000000")
+
+case("6 fault after the place in its unit",
+     of(r.lookup_code, 2, hexa("04 01 02 00"), 2, 0), R(9))
+case("6 fault in the next unit",
+     of(r.lookup_code, 2, hexa("00 01 02 03 04 01 00 00"), 5, 3), 4)
+case("6 spare bits looked up", of(r.lookup_code, 5, hexa("81"), 1, 0), 0)
+case("6 spare bits read", of(r.read_code, 5, hexa("81"), 1), R(9))
+case("6 leftover bytes looked up", of(r.lookup_code, 1, hexa("05 06"), 1, 0), 5)
+case("6 leftover bytes read", of(r.read_code, 1, hexa("05 06"), 1), R(9))
+case("6 leftover byte of gamma read", of(r.read_code, 5, hexa("80 00"), 1), R(9))
+FALLS = sheet((1, plan(1), 2, hexa("05 04")))
+case("6 rising not asked", of(r.lookup, FALLS, 0, 1), 4)
+case("6 a fall read", of(r.read, FALLS, 0, 14, 2), R(9))
+case("6 the least not asked", of(r.lookup_plan, tree(16, 1), hexa("E8 03 00 00 01 02"), 2, 0), 1001)
+EQUAL = hexa("02 00 00 00 02 00 00 00 07 07 03 01")
+case("6 neighbours not asked", of(r.lookup_plan, tree(18, 1, 1), EQUAL, 4, 3), 7)
+case("6 equal neighbours read", of(r.read_plan, tree(18, 1, 1), EQUAL, 4), R(9))
+TOTAL = hexa("02 00 00 00 02 00 00 00 07 09 03 09")
+case("6 total not asked", of(r.lookup_plan, tree(18, 1, 1), TOTAL, 4, 2), 7)
+case("6 running sum above the count", of(r.lookup_plan, tree(18, 1, 1), TOTAL, 4, 3), R(9))
+case("6 runs end too soon", of(r.lookup_plan, tree(18, 1, 1), TOTAL[:-1] + b"\1", 5, 4), R(9))
+case("6 zero length", of(r.lookup_plan, tree(18, 1, 1), TOTAL[:-2] + b"\0\4", 4, 0), R(9))
+case("6 run count above the count", of(r.lookup_plan, tree(18, 1, 1), TOTAL, 1, 0), R(9))
+case("6 values body must fit", of(r.lookup_plan, tree(18, 1, 1),
+                                  hexa("01 00 00 00 05 00 00 00 07 01"), 1, 0), R(9))
+case("6 control bytes must fit", of(r.lookup_code, 4, hexa("00"), 5, 0), R(9))
+case("6 control bytes fit, no data", of(r.lookup_code, 4, hexa("00 00"), 5, 0), R(9))
+case("6 data of the first group", of(r.lookup_code, 4, hexa("00 FF 01 02 03 04"), 5, 0), 1)
+case("6 empty column", of(r.lookup, sheet((0, plan(1), 0, b"\5")), 0, 0), R(6))
+
+case("7 both blocks taken, fit not asked", of(r.lookup_code, 3, ROOM, 6, 5), 6)
+LONG = hexa("EF 01 00 00 00 00 00 00 00")
+case("7 number of 5 bytes read", of(r.read_code, 3, LONG, 1), R(9))
+case("7 number of 5 bytes looked up", of(r.lookup_code, 3, LONG, 1, 0), R(9))
+
+HIGH = hexa("FF FF FF FF 01 00")
+case("8 reference, place 0", of(r.lookup_plan, tree(16, 1), HIGH, 2, 0), R(9))
+case("8 reference, place 1", of(r.lookup_plan, tree(16, 1), HIGH, 2, 1), MAX)
+case("8 reference, read", of(r.read_plan, tree(16, 1), HIGH, 2), R(9))
+case("8 under differences, place 1", of(r.lookup_plan, tree(17, 16, 1), HIGH, 2, 1), R(9))
+RUNS = hexa("02 00 00 00 06 00 00 00 FF FF FF FF 01 00 01 01")
+case("8 under runs, place 0", of(r.lookup_plan, tree(18, 16, 1, 1), RUNS, 2, 0), R(9))
+case("8 under runs, place 1", of(r.lookup_plan, tree(18, 16, 1, 1), RUNS, 2, 1), MAX)
+OVER = hexa("FF FF FF FF 0F 01")
+case("8 differences above 2^32 - 1, place 1", of(r.lookup_plan, tree(17, 1), OVER, 2, 1), R(9))
+case("8 differences above 2^32 - 1, place 0", of(r.lookup_plan, tree(17, 1), OVER, 2, 0), MAX)
+case("8 differences above 2^32 - 1, read", of(r.read_plan, tree(17, 1), OVER, 2), R(9))
+
+case("9 inner lists not tested", of(r.read, sheet((1, plan(17, 16, 1), 3, hexa("00000000 05 00 03"))),
+                                    0, 21, 3), [5, 5, 8])
+case("9 a fall under a stage", of(r.read, sheet((1, plan(16, 1), 2, hexa("00000000 01 00"))),
+                                  0, 14, 2), R(9))
+case("9 kind 0 may fall", of(r.read, sheet((0, plan(16, 1), 2, hexa("00000000 01 00"))),
+                             0, 14, 2), [1, 0])
+
+case("10 opening refused", r.open_reader(LISTED, 1), 5)
+case("10 opening refused, calls", r.calls(LISTED, 1, 3), 3 * [R(1)])
+case("10 the end", r.calls(LISTED, 0, 5),
+     [("number", 5), ("number", 5), ("number", 133), R(6), R(6)])
+case("10 a fault again", r.calls(sheet((0, plan(16, 1), 2, HIGH)), 0, 3), 3 * [R(9)])
+case("10 ... though place 1 answers", of(r.lookup, sheet((0, plan(16, 1), 2, HIGH)), 0, 1), MAX)
+
+
+def boarded(jobs, endings, kinds=(1, 0), more=()):
+    orders = [(kinds[0], NONE, len(jobs)), (kinds[1], NONE, len(endings))] + list(more)
+    return r.write(orders, jobs + endings, 7168, 65536)
+
+
+case("11 counts of 0", named(r.board, boarded([], []), 0), (0, 0, 0))
+case("11 tallies", named(r.board, boarded([3, 5, 9, 10, 11], [0, 1, 255, 256, 0]), 40), (2, 2, 1))
+case("11 column 1 rising", named(r.board, boarded([3, 5], [0, 256], (1, 1)), 16), (1, 0, 1))
+case("11 more columns", named(r.board, boarded([3], [7], more=[(0, NONE, 0)]), 8), (0, 1, 0))
+case("11 ending 257", named(r.board, boarded([3], [257]), 8), ("refused", 12, 0))
+case("11 equal jobs", named(r.board, boarded([3, 3], [0, 0]), 16), ("refused", 12, 0))
+case("11 unequal counts", named(r.board, boarded([3], []), 8), ("refused", 12, 0))
+case("11 column 0 any", named(r.board, boarded([3], [0], (0, 0)), 8), ("refused", 12, 0))
+case("11 one column", named(r.board, LISTED, 24), ("refused", 12, 0))
+case("11 full check first", named(r.board, sheet((0, plan(1), 0, b""), (0, plan(1), 0, b""),
+                                                 (0, plan(1), 0, b"\0")), 0), ("refused", 9, 2))
+case("11 work", named(r.board, boarded([3], [0]), 7), ("refused", 8, 0))
+
+case("12 listing 01 00", r.listing(hexa("01 00")), b"columns 0\nend\n")
+case("12 one end", r.listing(boarded([300], [7])),
+     b"columns 2\ncolumn 0 rising plan 17 1 count 1 bytes 2\n0 300\n"
+     b"column 1 any plan 1 count 1 bytes 1\n0 7\nend\n")
+case("12 listing refused", r.listing(BAD_LATER), b"refused 4 column 1\n")
+case("12 listing of nothing", r.listing(b""), b"refused 1 column 0\n")
+case("12 input over 65,536", r.listing(b"\1\0" + bytes(65535)), b"refused 1 column 0\n")
+case("12 input of 65,536", r.listing(b"\1\0" + bytes(65534)), b"refused 2 column 0\n")
+case("12 board", r.board_text(boarded([3, 5], [0, 256])), b"passed 1\nfailed 0\nunended 1\n")
+case("12 board refused", r.board_text(LISTED), b"refused 12 column 0\n")
+case("12 board, full columns", r.board_text(boarded(list(range(1024)), 1024 * [256])),
+     b"passed 0\nfailed 0\nunended 1024\n")
+
+DAMAGED = sheet((0, plan(1), 2, b"\x80"))
+case("13 read 8 before 7", of(r.read, DAMAGED, 0, 13, 1), R(8))
+case("13 read 7 before 9", of(r.read, DAMAGED, 0, 14, 1), R(7))
+case("13 read 9", of(r.read, DAMAGED, 0, 14, 2), R(9))
+case("13 read 5 before 8", of(r.read, DAMAGED, 1, 0, 0), R(5))
+
+# ------------------------------------------------------------ refusal numbers and sizes
+
+case("refusal 1: one byte", named(r.check, b"\1", 0), ("refused", 1, 0))
+case("refusal 1: edition 2", named(r.check, b"\2\0", 0), ("refused", 1, 0))
+case("refusal 1: 17 columns", named(r.check, b"\1\21" + bytes(24 * 17), 0), ("refused", 1, 0))
+case("refusal 2: table cut short", named(r.check, LISTED[:25], 24), ("refused", 2, 0))
+case("refusal 2: kind 2", of(r.lookup, sheet((2, plan(9), 0, b"")), 0, 0), R(2))
+case("refusal 2: count 1,025", of(r.lookup, sheet((0, plan(9), 1025, b"")), 0, 0), R(2))
+case("refusal 2: a byte more", of(r.fetch, LISTED + b"\0", 0), R(2))
+case("refusal 2: a byte less", of(r.fetch, LISTED[:-1], 0), R(2))
+case("refusal 3: not 15 bytes", r.judge(0, b"\1"), 3)
+case("refusal 3: after the end", r.judge(0, plan(1, 0, 1)), 3)
+case("refusal 4: lengths are any", r.judge(1, plan(18, 1, 17, 1)), 4)
+case("refusal 4: values keep the kind", r.judge(1, plan(18, 16, 17, 1, 16, 1)), 0)
+case("refusal 4: 17 hands on any", r.judge(1, plan(17, 17, 1)), 4)
+case("the fullest plan", r.judge(0, bytes([18, 18, 18, 1, 2, 18, 3, 4, 18, 18, 5, 6, 18, 1, 2])), 0)
+case("refusal 5 before 6", of(r.lookup, LISTED, 1, 99), R(5))
+case("refusal 6", of(r.lookup, LISTED, 0, 3), R(6))
+case("refusal 8: check", named(r.check, LISTED, 23), ("refused", 8, 0))
+case("refusal 8: write before 7", of(r.write, [(0, NONE, 2)], [1, 2], 13, 0), R(8))
+case("refusal 10 before 8", of(r.write, [(1, NONE, 2)], [2, 1], 0, 0), R(10))
+case("refusal 11: 17 orders", of(r.write, 17 * [(0, NONE, 0)], [], 0, 999), R(11))
+case("refusal 11: kind 2", of(r.write, [(2, plan(9), 0)], [], 0, 99), R(11))
+case("refusal 11: count 1,025", of(r.write, [(0, NONE, 1025)], 1025 * [0], 9999, 9999), R(11))
+case("refusal 11: counts and slice", of(r.write, [(0, NONE, 1)], [1, 2], 99, 99), R(11))
+case("worst: 3 before 11", of(r.worst, plan(9), 1025), R(3))
+case("worst: 11", of(r.worst, plan(1), 1025), R(11))
+case("worst of 5 by each code", [r.worst(plan(c), 5) for c in r.CODES], [25, 22, 27, 22, 41, 27])
+case("worst of 16, 17, 18", [r.worst(plan(*p), 5) for p in ((16, 1), (17, 1), (18, 16, 1, 2))],
+     [29, 25, 8 + 29 + 22])
+case("worst of 0", [r.worst(plan(*p), 0) for p in ((1,), (5,), (16, 3), (18, 16, 1, 1))],
+     [0, 0, 4, 12])
+
+# ------------------------------------------------------------ the end
+
+differ = 0
+for name, got, expected in CASES:
+    if got == expected and type(got) is type(expected):
+        print("%s ok" % name)
+    else:
+        differ += 1
+        print("%s: got %r expected %r" % (name, got, expected))
+print("%d cases, %d differ" % (len(CASES), differ))
+sys.exit(1 if differ else 0)

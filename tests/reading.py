@@ -1,0 +1,544 @@
+"""A plain reading of the sheet document (01-scope.md), written from its text alone.
+
+It shares nothing with the proved code and is there to be compared with it.  Where the
+document leaves room, "Decisions on open questions" 1 to 13 hold and are named in comments.
+Sheets, plans and bodies are `bytes`; lists are Python lists of ints from 0 to 2^32 - 1.
+A place counts numbers, an offset counts bytes.
+"""
+
+from itertools import accumulate, groupby, islice
+
+MOST_NUMBER, MOST_COLUMNS, MOST_COUNT, MOST_SHEET = 2**32 - 1, 16, 1024, 65536
+VBYTE, GROUPS, G8IU, STREAM, GAMMA, DELTA = CODES = (1, 2, 3, 4, 5, 6)
+REFERENCE, DIFFERENCES, RUNS = 16, 17, 18
+ANY, RISING = 0, 1
+NO_PLAN = bytes(15)
+DEFAULT = {ANY: bytes([1] + 14 * [0]), RISING: bytes([17, 1] + 13 * [0])}
+
+class Refused(Exception):
+    """A refusal: its number, and the column at fault where the document names one."""
+    def __init__(self, number, column=0):
+        Exception.__init__(self, number, column)
+        self.number, self.column = number, column
+
+def fault_if(condition):
+    """9: a fault in a body."""
+    if condition:
+        raise Refused(9)
+
+def up(a, b):
+    """a / b rounded up."""
+    return -(-a // b)
+
+def u32(x):
+    """4 bytes, least significant byte first."""
+    return x.to_bytes(4, "little")
+
+def header(body, offset):
+    """The 4-byte number at an offset; headers must fit the body."""
+    fault_if(offset + 4 > len(body))
+    return int.from_bytes(body[offset:offset + 4], "little")
+
+def held(total):
+    """A sum above 2^32 - 1 is a fault."""
+    fault_if(total > MOST_NUMBER)
+    return total
+
+def fewest(x):
+    """The fewest bytes that hold x; zero takes one byte."""
+    return max(1, up(x.bit_length(), 8))
+
+def rises(numbers):
+    """No number below the one before."""
+    return all(a <= b for a, b in zip(numbers, numbers[1:]))
+
+# ------------------------------------------------------------ codes: writing a list
+
+def write_vbyte(x):
+    """7 bits a byte, lowest first, top bit 1 when more follows."""
+    out = []
+    while x > 127:
+        out.append(128 + x % 128)
+        x //= 128
+    return bytes(out + [x])
+
+def write_groups(numbers):
+    """The groups of four: a list of (control byte, data)."""
+    groups = []
+    for first in range(0, len(numbers), 4):
+        control, data = 0, b""
+        for i, x in enumerate(numbers[first:first + 4]):
+            control += (fewest(x) - 1) << (2 * i)       # field i: bits 2i and 2i+1
+            data += x.to_bytes(fewest(x), "little")
+        groups.append((bytes([control]), data))         # unused fields are 0, no data
+    return groups
+
+def write_g8iu(numbers):
+    """Blocks of a control byte and 8 data bytes; bit i is 0 when data byte i ends a number."""
+    out, i = b"", 0
+    while i < len(numbers):
+        control, data = 255, b""
+        # A block takes the next number whenever it fits.
+        while i < len(numbers) and len(data) + fewest(numbers[i]) <= 8:
+            data += numbers[i].to_bytes(fewest(numbers[i]), "little")
+            control -= 1 << (len(data) - 1)
+            i += 1
+        out += bytes([control]) + data + bytes(8 - len(data))       # waste bytes are 0
+    return out
+
+def gamma_bits(v):
+    """z zero bits, then v in z+1 bits, where v lies from 2^z to 2^(z+1) - 1."""
+    return "0" * (v.bit_length() - 1) + format(v, "b")
+
+def delta_bits(v):
+    """v's bit length in gamma (as it is, nothing added), then v without its leading one."""
+    return gamma_bits(v.bit_length()) + format(v, "b")[1:]
+
+def pack(bits):
+    """Highest bit of each byte first; spare bits of the last byte 0."""
+    bits += "0" * (-len(bits) % 8)
+    return bytes(int(bits[i:i + 8], 2) for i in range(0, len(bits), 8))
+
+def write_code(code, numbers):
+    """The body of a list by a code."""
+    if code == VBYTE:
+        return b"".join(write_vbyte(x) for x in numbers)
+    if code == GROUPS:
+        return b"".join(control + data for control, data in write_groups(numbers))
+    if code == STREAM:          # the same groups, all control bytes first, then all data
+        groups = write_groups(numbers)
+        return b"".join(c for c, _ in groups) + b"".join(d for _, d in groups)
+    if code == G8IU:
+        return write_g8iu(numbers)
+    bits = {GAMMA: gamma_bits, DELTA: delta_bits}[code]
+    return pack("".join(bits(x + 1) for x in numbers))      # v, the number plus one
+
+# ------------------------------------------------------------ codes: reading units
+#
+# Reading one unit answers with its numbers and where the next unit begins, or the refusal.
+# `at` is where it begins: an offset; a bit of the body in gamma and delta; a control and a
+# data offset in Stream VByte.  `left`, at least 1, is how many numbers of the list are in
+# this unit and after it.
+
+def unit_vbyte(body, at, left):
+    x = 0
+    for i in range(5):                                  # at most 5 bytes
+        fault_if(at + i >= len(body))
+        byte = body[at + i]
+        fault_if(i == 4 and byte > 15)                  # the fifth at most 15
+        x += (byte % 128) << (7 * i)
+        if byte < 128:
+            fault_if(byte == 0 and i > 0)               # the last not 0 unless alone
+            return [x], at + i + 1
+
+def unit_stream(body, at, left):
+    control_at, data_at = at
+    fault_if(control_at >= len(body))
+    numbers = []
+    for i in range(4):
+        length = ((body[control_at] >> (2 * i)) & 3) + 1
+        if i < left:
+            data = body[data_at:data_at + length]
+            x = int.from_bytes(data, "little")
+            fault_if(len(data) < length or fewest(x) != length)
+            numbers.append(x)
+            data_at += length
+        else:
+            fault_if(length != 1)                       # unused fields are 0, no data
+    return numbers, (control_at + 1, data_at)
+
+def unit_group(body, at, left):
+    """The same group, its data right after its control byte."""
+    numbers, (_, data_at) = unit_stream(body, (at, at + 1), left)
+    return numbers, data_at
+
+def unit_block(body, at, left):
+    """A G8IU block by its own rules."""
+    block = body[at:at + 9]
+    fault_if(len(block) < 9)
+    control, data = block[0], block[1:]
+    numbers, begin = [], 0
+    for i in range(8):
+        if (control >> i) & 1 == 0:                     # data byte i ends a number
+            x, length = int.from_bytes(data[begin:i + 1], "little"), i + 1 - begin
+            fault_if(length > 4 or fewest(x) != length)     # 1 to 4 bytes, fewest possible
+            numbers.append(x)
+            begin = i + 1
+    waste = data[begin:]                                # ones above the last zero
+    fault_if(any(waste))                                # waste bytes are 0
+    fault_if(len(numbers) < 1)                          # at least one
+    fault_if(len(numbers) > left)                       # no number beyond the list
+    fault_if(len(waste) > 3 and len(numbers) != left)   # unless the list ends there
+    return numbers, at + 9
+
+def bits_at(body, at, many):
+    """So many bits of the body from bit `at`, as a number."""
+    fault_if(at + many > 8 * len(body))
+    x = 0
+    for i in range(at, at + many):
+        x = 2 * x + ((body[i // 8] >> (7 - i % 8)) & 1)
+    return x
+
+def gamma_at(body, at, most):
+    """A gamma codeword's v, which may be `most`, and the bit after it."""
+    z = 0
+    while bits_at(body, at + z, 1) == 0:
+        z += 1
+        fault_if(2**z > most)
+    v = bits_at(body, at + z, z + 1)
+    fault_if(v > most)
+    return v, at + z + z + 1
+
+def unit_gamma(body, at, left):
+    v, at = gamma_at(body, at, 2**32)                   # v may be 2^32
+    return [v - 1], at
+
+def unit_delta(body, at, left):
+    length, at = gamma_at(body, at, 33)                 # the bit length of 2^32 is 33
+    v = 2**(length - 1) + bits_at(body, at, length - 1)
+    fault_if(v > 2**32)
+    return [v - 1], at + length - 1
+
+UNIT = {VBYTE: unit_vbyte, GROUPS: unit_group, G8IU: unit_block,
+        STREAM: unit_stream, GAMMA: unit_gamma, DELTA: unit_delta}
+
+def first_unit(code, body, n):
+    """Where the first unit begins.  Stream VByte's control bytes must fit the body."""
+    if code != STREAM:
+        return 0
+    fault_if(up(n, 4) > len(body))
+    return 0, up(n, 4)
+
+def units(code, body, n):
+    """The units of a list of n numbers in turn, each with where the next begins."""
+    at, left = first_unit(code, body, n), n
+    while left > 0:
+        numbers, at = UNIT[code](body, at, left)
+        left -= len(numbers)
+        yield numbers, at
+
+def read_code(code, body, n):
+    """The list of a body, by all the rules."""
+    at, taken = first_unit(code, body, n), []
+    for numbers, at in units(code, body, n):
+        taken.append(numbers)
+    # Each body fills its length exactly.
+    if code in (GAMMA, DELTA):
+        fault_if(up(at, 8) != len(body))
+        fault_if(bits_at(body, at, 8 * len(body) - at) != 0)        # spare bits are 0
+    else:
+        fault_if((at[1] if code == STREAM else at) != len(body))
+    if code == G8IU:            # A block takes the next number whenever it fits.
+        for block, after in zip(taken, taken[1:]):
+            fault_if(sum(fewest(x) for x in block) + fewest(after[0]) <= 8)
+    return [x for numbers in taken for x in numbers]
+
+def lookup_code(code, body, n, place):
+    """Units from the first through the one that holds the place; nothing after.
+    (Decision 7: so the fit into the block before is never asked.)"""
+    return lookup_plan((code,), body, n, place)
+
+# ------------------------------------------------------------ plans
+#
+# A plan as a tree: (code,), (16, inner), (17, inner) or (18, values plan, lengths plan).
+
+def parse_plan(plan15):
+    """Prefix text in bytes, zero-filled to 15.  Malformed: refusal 3."""
+    def parse(at, depth):       # depth: what may still be used, a code counting 1
+        what = plan15[at] if at < 15 and depth >= 1 else 0
+        if what in CODES:
+            return (what,), at + 1
+        if what in (REFERENCE, DIFFERENCES):
+            inner, at = parse(at + 1, depth - 1)
+            return (what, inner), at
+        if what == RUNS:
+            values, at = parse(at + 1, depth - 1)
+            lengths, at = parse(at, depth - 1)
+            return (what, values, lengths), at
+        raise Refused(3)        # unknown number, a zero where a plan must begin, depth 5
+
+    if len(plan15) != 15:
+        raise Refused(3)
+    tree, end = parse(0, 4)
+    if any(plan15[end:]):       # a nonzero byte after the end
+        raise Refused(3)
+    return tree
+
+def passes(kind, tree):
+    """Judging by kind."""
+    if tree[0] == REFERENCE:
+        return passes(kind, tree[1])                            # keeps the kind
+    if tree[0] == DIFFERENCES:
+        return kind == RISING and passes(ANY, tree[1])          # needs rising, hands on any
+    if tree[0] == RUNS:
+        return passes(kind, tree[1]) and passes(ANY, tree[2])   # values keep, lengths any
+    return True                                                 # codes take either
+
+def judged(kind, plan15):
+    """The tree of a plan, 3 before 4 (decision 3: a malformed byte anywhere beats 4)."""
+    tree = parse_plan(plan15)
+    if not passes(kind, tree):
+        raise Refused(4)
+    return tree
+
+def judge(kind, plan):
+    """Asked alone: a kind above 1 (11), then 3, then 4; 0 when passed."""
+    try:
+        if kind > 1:
+            raise Refused(11)
+        judged(kind, plan)
+        return 0
+    except Refused as e:
+        return e.number
+
+def worst_tree(tree, n):
+    alone = {VBYTE: 5 * n, GROUPS: 4 * n + up(n, 4), STREAM: 4 * n + up(n, 4),
+             G8IU: up(n, 2) * 9, GAMMA: up(65 * n, 8), DELTA: up(43 * n, 8),
+             REFERENCE: 4, DIFFERENCES: 0, RUNS: 8}
+    return alone[tree[0]] + sum(worst_tree(inner, n) for inner in tree[1:])
+
+def worst(plan, n):
+    """The worst size of a plan for n numbers; refuses malformed plans (3), then n (11)."""
+    tree = parse_plan(plan)
+    if n > MOST_COUNT:
+        raise Refused(11)
+    return worst_tree(tree, n)
+
+def write_plan(tree, numbers):
+    """The body of a list by a plan.  (Stage 17 needs a rising list.)"""
+    what = tree[0]
+    if what in CODES:
+        return write_code(what, numbers)
+    if what == REFERENCE:       # the least number (0 for an empty list), then the list less it
+        least = min(numbers, default=0)
+        return u32(least) + write_plan(tree[1], [x - least for x in numbers])
+    if what == DIFFERENCES:     # the first number, then each less the one before
+        return write_plan(tree[1], [x - before for before, x in zip([0] + numbers, numbers)])
+    runs = [(x, len(list(equals))) for x, equals in groupby(numbers)]       # maximal
+    values_body = write_plan(tree[1], [x for x, _ in runs])
+    lengths_body = write_plan(tree[2], [length for _, length in runs])
+    return u32(len(runs)) + u32(len(values_body)) + values_body + lengths_body
+
+def run_parts(body, n):
+    """A run stage's run count, values body and lengths body."""
+    runs, length = header(body, 0), header(body, 4)
+    fault_if(runs > n)                      # a run count above the count
+    fault_if(8 + length > len(body))        # the values body must fit
+    return runs, body[8:8 + length], body[8 + length:]
+
+def read_plan(tree, body, n):
+    """The list of n numbers of a body by a plan, by all the rules."""
+    what = tree[0]
+    if what in CODES:
+        return read_code(what, body, n)
+    if what == REFERENCE:
+        least = header(body, 0)
+        numbers = [held(least + x) for x in read_plan(tree[1], body[4:], n)]
+        fault_if(least != min(numbers, default=0))      # decision 5: 0 for an empty list
+        return numbers
+    if what == DIFFERENCES:
+        return [held(total) for total in accumulate(read_plan(tree[1], body, n))]
+    runs, values_body, lengths_body = run_parts(body, n)
+    values = read_plan(tree[1], values_body, runs)
+    lengths = read_plan(tree[2], lengths_body, runs)
+    fault_if(any(length < 1 for length in lengths))             # lengths at least 1
+    fault_if(any(a == b for a, b in zip(values, values[1:])))   # neighbours differ
+    fault_if(sum(lengths) != n)                                 # lengths sum to the count
+    return [x for x, length in zip(values, lengths) for _ in range(length)]
+
+def in_turn(tree, body, n):
+    """What lookups find at places 0, 1, 2 and so on, in turn, up to the first fault in a unit,
+    a header or a run; nothing after the unit that holds the place has then been looked at.
+    Sums above 2^32 - 1 are handed on as they are: every sum they enter is above it too, and
+    the lookup that asks for one refuses it (decision 8: only at the place asked)."""
+    what = tree[0]
+    if what in CODES:
+        for numbers, _ in units(what, body, n):
+            yield from numbers
+    elif what == REFERENCE:                         # reference adds
+        least = header(body, 0)
+        yield from (least + x for x in in_turn(tree[1], body[4:], n))
+    elif what == DIFFERENCES:                       # differences add up the inner places
+        yield from accumulate(in_turn(tree[1], body, n))
+    else:                                           # runs add inner lengths
+        runs, values_body, lengths_body = run_parts(body, n)
+        values, total = in_turn(tree[1], values_body, runs), 0
+        for length in in_turn(tree[2], lengths_body, runs):
+            total += length
+            fault_if(length == 0 or total > n)      # a zero length, a sum above the count
+            yield from length * [next(values)]
+        fault_if(total < n)                         # runs that end too soon
+
+def lookup_plan(tree, body, n, place):
+    """The number at a place of a body of n numbers by a plan."""
+    if place >= n:
+        raise Refused(6)
+    return held(next(islice(in_turn(tree, body, n), place, None)))
+
+# ------------------------------------------------------------ the sheet
+
+def write(orders, joined, work_len, out_len):
+    """A sheet from orders (kind, plan15, count) and one list with all lists joined.
+    Refuses: 11; each plan in turn, 3 before 4; each list in turn 10; 8; 7."""
+    if (len(orders) > MOST_COLUMNS
+            or any(kind > 1 or count > MOST_COUNT for kind, _, count in orders)
+            or sum(count for _, _, count in orders) != len(joined)):
+        raise Refused(11)
+    columns, begin = [], 0
+    for kind, plan, count in orders:
+        if plan == NO_PLAN:     # decision 1: 15 zeros mean the default only in an order
+            plan = DEFAULT[kind]
+        columns.append((kind, plan, judged(kind, plan), joined[begin:begin + count]))
+        begin += count
+    for kind, _, _, numbers in columns:
+        if kind == RISING and not rises(numbers):
+            raise Refused(10)
+    if work_len < 7 * max([count for _, _, count in orders], default=0):
+        raise Refused(8)
+    entries = bodies = b""
+    for kind, plan, tree, numbers in columns:
+        body = write_plan(tree, numbers)
+        entries += bytes([kind]) + plan + u32(len(numbers)) + u32(len(body))
+        bodies += body
+    sheet = bytes([1, len(columns)]) + entries + bodies
+    if len(sheet) > out_len or len(sheet) > MOST_SHEET:     # decision 4: the exact size
+        raise Refused(7)
+    return sheet
+
+def worst_sheet(orders):
+    """2, 24 a column, the plans' sums, of the plans really used; each order in turn 3, 11."""
+    return 2 + sum(24 + worst(DEFAULT.get(kind, plan) if plan == NO_PLAN else plan, count)
+                   for kind, plan, count in orders)
+
+def columns_of(sheet, naming=False):
+    """All columns, each (kind, plan15, tree, count, offset, length).  Refuses 1; 2; each plan
+    in turn, 3 before 4 (decision 2: of all columns).  Only check and board name the column."""
+    if not 2 <= len(sheet) <= MOST_SHEET or sheet[0] != 1 or sheet[1] > MOST_COLUMNS:
+        raise Refused(1)
+    bodies = 2 + 24 * sheet[1]
+    if len(sheet) < bodies:                                 # table cut short
+        raise Refused(2)
+    entries, offset = [], bodies
+    for at in range(2, bodies, 24):
+        count, length = header(sheet, at + 16), header(sheet, at + 20)
+        entries.append((sheet[at], sheet[at + 1:at + 16], count, offset, length))
+        if sheet[at] > 1 or count > MOST_COUNT:
+            raise Refused(2)
+        offset += length
+    if offset != len(sheet):                                # body lengths not filling the rest
+        raise Refused(2)
+    columns = []
+    for index, (kind, plan, count, offset, length) in enumerate(entries):
+        try:
+            columns.append((kind, plan, judged(kind, plan), count, offset, length))
+        except Refused as e:
+            raise Refused(e.number, index if naming else 0)
+    return columns
+
+def column_at(sheet, index):
+    """One column, after refusals 1 to 5."""
+    columns = columns_of(sheet)
+    if index >= len(columns):
+        raise Refused(5)
+    return columns[index]
+
+def column_list(sheet, column):
+    """Reading a column applies all of this, and kind 1 must rise (decision 9: tested last)."""
+    kind, _, tree, count, offset, length = column
+    numbers = read_plan(tree, sheet[offset:offset + length], count)
+    fault_if(kind == RISING and not rises(numbers))
+    return numbers
+
+def read(sheet, column, work_len, out_len):
+    """The column's list.  Refuses 1 to 5; 8; 7; 9."""
+    found = column_at(sheet, column)
+    if work_len < 7 * found[3]:
+        raise Refused(8)
+    if out_len < found[3]:
+        raise Refused(7)
+    return column_list(sheet, found)
+
+def checked(sheet, work_len):
+    """All columns and their lists.  Refuses 1 to 4; 8; the columns in turn for 9."""
+    columns, lists = columns_of(sheet, naming=True), []
+    if work_len < 8 * max([column[3] for column in columns], default=0):
+        raise Refused(8)
+    for index, column in enumerate(columns):
+        try:
+            lists.append(column_list(sheet, column))
+        except Refused as e:
+            raise Refused(e.number, index)
+    return columns, lists
+
+def check(sheet, work_len):
+    checked(sheet, work_len)
+
+def lookup(sheet, column, place):
+    """Refuses 1 to 6; 9."""
+    _, _, tree, count, offset, length = column_at(sheet, column)
+    return lookup_plan(tree, sheet[offset:offset + length], count, place)
+
+def fetch(sheet, column):
+    """Where the column's body stands in the sheet: (offset, length), after 1 to 5."""
+    return column_at(sheet, column)[4:6]
+
+def open_reader(sheet, column):
+    """0, or refuses by 1 to 5."""
+    try:
+        column_at(sheet, column)
+        return 0
+    except Refused as e:
+        return e.number
+
+def calls(sheet, column, k):
+    """The answers of the first k calls of a reader on the column."""
+    if open_reader(sheet, column) != 0:     # a reader over an empty part, which answers 1
+        return k * [("refused", 1)]
+    answers = []
+    for place in range(k):
+        try:                                # call k answers as a lookup at place k
+            answers.append(("number", lookup(sheet, column, place)))
+        except Refused as e:                # and each later call gives that refusal again
+            return answers + (k - place) * [("refused", e.number)]
+    return answers
+
+def board(sheet, work_len):
+    """(passed, failed, unended).  After a full check: 12."""
+    columns, lists = checked(sheet, work_len)
+    if len(columns) < 2 or len(lists[0]) != len(lists[1]) or columns[0][0] != RISING:
+        raise Refused(12)
+    jobs, endings = lists[:2]
+    if any(a == b for a, b in zip(jobs, jobs[1:])) or any(x > 256 for x in endings):
+        raise Refused(12)
+    return (len([x for x in endings if x == 0]), len([x for x in endings if 1 <= x <= 255]),
+            len([x for x in endings if x == 256]))
+
+# ------------------------------------------------------------ the two programs
+
+ALL_WORK = 8 * MOST_COUNT       # decision 12: the programs give all the work needed
+
+def printed(lines):
+    """Every line ends with a line feed."""
+    return "".join(line + "\n" for line in lines).encode("ascii")
+
+def listing(input_bytes):
+    """What the listing program prints."""
+    try:
+        columns, lists = checked(input_bytes, ALL_WORK)
+    except Refused as e:
+        return printed(["refused %d column %d" % (e.number, e.column)])
+    lines = ["columns %d" % len(columns)]
+    for index, (kind, plan, _, count, _, length) in enumerate(columns):
+        fill_off = " ".join(str(byte) for byte in plan.rstrip(b"\0"))
+        lines.append("column %d %s plan %s count %d bytes %d"
+                     % (index, ("any", "rising")[kind], fill_off, count, length))
+        lines += ["%d %d" % (place, x) for place, x in enumerate(lists[index])]
+    return printed(lines + ["end"])
+
+def board_text(input_bytes):
+    """What the board program prints."""
+    try:
+        tallies = board(input_bytes, ALL_WORK)
+    except Refused as e:
+        return printed(["refused %d column %d" % (e.number, e.column)])
+    return printed(["passed %d" % tallies[0], "failed %d" % tallies[1], "unended %d" % tallies[2]])

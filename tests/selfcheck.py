@@ -1,0 +1,336 @@
+"""Random self-consistency of the reading: what is written is read back, what is read is written
+back byte for byte, lookups agree with reading, sizes keep to the worst size, also on damage.
+
+    python3 selfcheck.py [rounds] [seed]
+
+Exit status 1 on any difference."""
+
+import random
+import sys
+import time
+sys.dont_write_bytecode = True
+import reading as r
+
+ROUNDS = int(sys.argv[1]) if len(sys.argv) > 1 else 20000
+SEED = int(sys.argv[2]) if len(sys.argv) > 2 else 1
+rnd = random.Random(SEED)
+MAX = 2**32 - 1
+WIDE_WORK = 8192
+differ = 0
+seen = {}
+
+
+def count(what):
+    seen[what] = seen.get(what, 0) + 1
+
+
+def same(what, got, expected, *about):
+    global differ
+    if got != expected:
+        differ += 1
+        if differ <= 20:
+            print("%s: got %r expected %r; %r" % (what, got, expected, about))
+
+
+def of(f, *args):
+    try:
+        return f(*args)
+    except r.Refused as e:
+        return ("refused", e.number)
+
+
+# ------------------------------------------------------------ random lists and plans
+
+def random_count():
+    return rnd.choice((0, 1, 2, 3, 4, 5, 8, 9, rnd.randrange(20), rnd.randrange(20),
+                       rnd.randrange(20), rnd.randrange(60)))
+
+
+def random_number():
+    """A number of mixed length, often at an edge of one."""
+    top = 2**rnd.choice((1, 3, 7, 8, 14, 16, 21, 24, 28, 31, 32))
+    return rnd.choice((rnd.randrange(top), rnd.randrange(top), max(0, top - 1 - rnd.randrange(3)),
+                       min(MAX, top + rnd.randrange(3))))
+
+
+def random_list(kind, n):
+    shape = rnd.choice(("small", "mixed", "32-bit", "runs", "far", "ones"))
+    if shape == "small":
+        numbers = [rnd.randrange(200) for _ in range(n)]
+    elif shape == "mixed":
+        numbers = [random_number() for _ in range(n)]
+    elif shape == "32-bit":
+        numbers = [rnd.choice((rnd.randrange(2**32), MAX)) for _ in range(n)]
+    elif shape == "runs":
+        numbers = []
+        while len(numbers) < n:
+            numbers += rnd.randint(1, 9) * [random_number()]
+        numbers = numbers[:n]
+    elif shape == "far":
+        base = rnd.choice((1000, 2**31, MAX - 500))
+        numbers = [base + rnd.randrange(500) for _ in range(n)]
+    else:
+        numbers = n * [random_number()]
+    return sorted(numbers) if kind == 1 else numbers
+
+
+def random_tree(kind, depth=4):
+    """A plan that passes for the kind."""
+    stage = rnd.choice((0, 0, 16, 17, 18)) if depth > 1 else 0
+    if stage == 16:
+        return (16, random_tree(kind, depth - 1))
+    if stage == 17 and kind == 1:
+        return (17, random_tree(0, depth - 1))
+    if stage == 18:
+        return (18, random_tree(kind, depth - 1), random_tree(0, depth - 1))
+    return (rnd.choice(r.CODES),)
+
+
+def prefix(tree):
+    return bytes([tree[0]]) + b"".join(prefix(inner) for inner in tree[1:])
+
+
+def fill(tree):
+    return prefix(tree) + bytes(15 - len(prefix(tree)))
+
+
+def damage(data):
+    data = bytearray(data)
+    for _ in range(rnd.choice((1, 1, 1, 2, 3))):
+        way = rnd.choice(("bit", "bit", "byte", "small", "cut", "append", "insert", "drop"))
+        at = rnd.randrange(len(data)) if data else 0
+        if way == "append":
+            data += bytes(rnd.choice((0, 1, 255, rnd.randrange(256)))
+                          for _ in range(rnd.choice((1, 1, 2, 9))))
+        elif way == "insert":
+            data.insert(at, rnd.choice((0, 1, 128, 255, rnd.randrange(256))))
+        elif not data:
+            continue
+        elif way == "bit":
+            data[at] ^= 1 << rnd.randrange(8)
+        elif way == "byte":
+            data[at] = rnd.randrange(256)
+        elif way == "small":
+            data[at] = rnd.choice((0, 1, 2, 3))
+        elif way == "cut":
+            del data[at:]
+        else:
+            del data[at]
+    return bytes(data)
+
+
+# ------------------------------------------------------------ the lookup in the document's words
+
+def literal(tree, body, n, place):
+    """A lookup, each inner place asked for alone."""
+    if tree[0] in r.CODES:
+        before = 0
+        for numbers, _ in r.units(tree[0], body, n):
+            if place < before + len(numbers):
+                return numbers[place - before]
+            before += len(numbers)
+    if tree[0] == r.REFERENCE:
+        return r.held(r.header(body, 0) + literal(tree[1], body[4:], n, place))
+    if tree[0] == r.DIFFERENCES:
+        total = 0
+        for inner_place in range(place + 1):
+            total = r.held(total + literal(tree[1], body, n, inner_place))
+        return total
+    runs, values_body, lengths_body = r.run_parts(body, n)
+    total = 0
+    for run in range(runs):
+        length = literal(tree[2], lengths_body, runs, run)
+        total += length
+        r.fault_if(length == 0 or total > n)
+        if total > place:
+            return literal(tree[1], values_body, runs, run)
+    raise r.Refused(9)
+
+
+def places(n):
+    """Every place of a short list, some of a long one."""
+    return range(n) if n <= 12 else sorted(rnd.sample(range(n), 6) + [0, n - 1])
+
+
+def lookups(tree, body, n, numbers):
+    """Lookups at places; numbers is the list, or None when reading refuses."""
+    for place in places(n):
+        got = of(r.lookup_plan, tree, body, n, place)
+        if numbers is not None:
+            same("lookup", got, numbers[place], tree, body, n, place)
+        elif got != ("refused", 9):
+            count("lookups answered where reading refuses")
+            same("lookup is a number", isinstance(got, int) and 0 <= got <= MAX, True, tree, body)
+        if n <= 6 or (n <= 12 and rnd.random() < 0.2):
+            same("literal lookup", got, of(literal, tree, body, n, place), tree, body, n, place)
+        if got != ("refused", 9):       # nothing after is looked at
+            more = body + bytes(rnd.randrange(256) for _ in range(3))
+            same("lookup, more after", of(r.lookup_plan, tree, more, n, place), got, tree, body, n)
+            if tree[0] in r.CODES:
+                same("lookup, cut after", of(r.lookup_plan, tree, cut_after(tree[0], body, n, place),
+                                             n, place), got, tree, body, n, place)
+    same("lookup at n", of(r.lookup_plan, tree, body, n, n), ("refused", 6), tree, body, n)
+
+
+def cut_after(code, body, n, place):
+    """The body as far as the unit that holds the place."""
+    before = 0
+    for numbers, at in r.units(code, body, n):
+        before += len(numbers)
+        if place < before:
+            at = at[1] if code == r.STREAM else at
+            return body[:r.up(at, 8) if code in (r.GAMMA, r.DELTA) else at]
+
+
+# ------------------------------------------------------------ rounds
+
+def round_body(tree, kind):
+    """A list written, read and looked up, then its body damaged."""
+    n = random_count()
+    numbers = random_list(kind, n)
+    body = r.write_plan(tree, numbers)
+    same("read back", of(r.read_plan, tree, body, n), numbers, tree, body)
+    same("within worst", len(body) <= r.worst(fill(tree), n), True, tree, numbers)
+    lookups(tree, body, n, numbers)
+    if tree[0] in r.CODES:
+        same("code and plan", (r.write_code(tree[0], numbers), of(r.read_code, tree[0], body, n)),
+             (body, numbers), tree)
+    damaged, m = damage(body), rnd.choice((n, n, n, n + 1, max(0, n - 1)))
+    if rnd.random() < 0.1:
+        damaged = bytes(rnd.randrange(256) for _ in range(rnd.randrange(12)))
+    got = of(r.read_plan, tree, damaged, m)
+    if isinstance(got, list):
+        count("damaged bodies read")
+        if damaged != body:
+            count("code %d" % tree[0] if tree[0] in r.CODES else "stage %d" % tree[0])
+        same("count read", len(got), m, tree, damaged)
+        same("damaged written back", r.write_plan(tree, got), damaged, tree, m)
+        lookups(tree, damaged, m, got)
+    else:
+        count("damaged bodies refused")
+        same("refused by 9", got, ("refused", 9), tree, damaged, m)
+        lookups(tree, damaged, m, None)
+
+
+def round_plan():
+    """Plan bytes: well formed means the tree spelt again."""
+    plan = bytes(rnd.choice((0, 1, 2, 3, 4, 5, 6, 7, 16, 17, 18, 18, 19, 255))
+                 for _ in range(rnd.choice((1, 2, 3, 4, 5, 7, 15))))
+    plan += bytes(15 - len(plan))
+    if rnd.random() < 0.7:              # a plan with one byte changed
+        plan = bytearray(fill(random_tree(1)))
+        plan[rnd.randrange(6)] = rnd.choice((0, 1, 3, 5, 6, 16, 17, 18, rnd.randrange(256)))
+        plan = bytes(plan)
+    tree = of(r.parse_plan, plan)
+    if tree == ("refused", 3):
+        same("malformed", (r.judge(0, plan), r.judge(1, plan), r.judge(2, plan)), (3, 3, 11), plan)
+        same("malformed worst", of(r.worst, plan, 9999), ("refused", 3), plan)
+    else:
+        count("plans")
+        same("spelt again", fill(tree), plan)
+        same("kind 0", r.judge(0, plan), 4 if 17 in plan else 0, plan)
+        same("kind 1 passes kind 0", r.judge(1, plan) == 0 or r.judge(0, plan) == 4, True, plan)
+        same("worst", of(r.worst, plan, 1025), ("refused", 11), plan)
+
+
+def random_sheet():
+    """Orders, lists and the sheet."""
+    orders, lists = [], []
+    for _ in range(rnd.choice((0, 1, 1, 2, 2, 3, 4, 16 if rnd.random() < 0.1 else 2))):
+        kind = rnd.randrange(2)
+        numbers = random_list(kind, random_count())
+        plan = bytes(15) if rnd.random() < 0.2 else fill(random_tree(kind))
+        orders.append((kind, plan, len(numbers)))
+        lists.append(numbers)
+    if rnd.random() < 0.3 and len(orders) >= 2:             # a board
+        jobs = sorted(rnd.sample(range(5000), len(lists[1])))
+        lists[:2] = [jobs, [rnd.choice((0, 1, 255, 256)) for _ in jobs]]
+        orders[:2] = [(1, fill(random_tree(1)), len(jobs)), (0, fill(random_tree(0)), len(jobs))]
+    return orders, lists, r.write(orders, sum(lists, []), WIDE_WORK, 65536)
+
+
+def sheet_agrees(sheet, lists):
+    """A sheet that passed: rewriting, readers, programs."""
+    columns = r.columns_of(sheet)
+    orders = [(column[0], column[1], column[3]) for column in columns]
+    joined = sum(lists, [])
+    most = max([len(numbers) for numbers in lists], default=0)
+    same("rewritten", of(r.write, orders, joined, 7 * most, len(sheet)), sheet, orders)
+    same("rewritten, 7", of(r.write, orders, joined, 7 * most, len(sheet) - 1), ("refused", 7))
+    same("within worst sheet", len(sheet) <= r.worst_sheet(orders), True, orders)
+    if most:
+        same("rewritten, 8", of(r.write, orders, joined, 7 * most - 1, 0), ("refused", 8))
+        same("check, 8", of(r.check, sheet, 8 * most - 1), ("refused", 8), sheet)
+    lines = r.listing(sheet).decode().split("\n")
+    at = 1
+    for index, numbers in enumerate(lists):
+        n = len(numbers)
+        same("read", of(r.read, sheet, index, 7 * n, n), numbers, sheet, index)
+        offset, length = r.fetch(sheet, index)
+        same("fetched", r.read_plan(columns[index][2], sheet[offset:offset + length], n), numbers)
+        for place in places(n):
+            same("sheet lookup", of(r.lookup, sheet, index, place), numbers[place], sheet, index)
+        if n <= 12:
+            same("calls", r.calls(sheet, index, n + 2),
+                 [("number", x) for x in numbers] + 2 * [("refused", 6)], sheet, index)
+        same("listed", lines[at + 1:at + 1 + n], ["%d %d" % p for p in enumerate(numbers)], sheet)
+        at += 1 + n
+    same("listed end", lines[at:], ["end", ""], sheet)
+    tallies = of(r.board, sheet, WIDE_WORK)
+    if tallies == ("refused", 12):
+        same("board refused", r.board_text(sheet), b"refused 12 column 0\n")
+    else:
+        count("boards")
+        same("tallies", sum(tallies), len(lists[0]), sheet)
+        same("strictly rising", lists[0], sorted(set(lists[0])), sheet)
+
+
+def round_sheet():
+    orders, lists, sheet = random_sheet()
+    same("check", of(r.check, sheet, WIDE_WORK), None, sheet)
+    sheet_agrees(sheet, lists)
+    for _ in range(3):
+        damaged = damage(sheet)
+        got = of(r.check, damaged, WIDE_WORK)
+        columns = damaged[1] if len(damaged) > 1 else 0
+        if got is None:
+            count("damaged sheets passed" if damaged != sheet else "sheets unchanged")
+            sheet_agrees(damaged, [r.read(damaged, i, WIDE_WORK, 1024) for i in range(columns)])
+            continue
+        count("damaged sheets refused %d" % got[1])
+        same("check refuses", got[1] in (1, 2, 3, 4, 9), True, damaged)
+        if got[1] != 9:
+            same("reader refused", (r.open_reader(damaged, 0), r.calls(damaged, 0, 2)),
+                 (got[1], 2 * [("refused", 1)]), damaged)
+            same("read refused", of(r.read, damaged, 99, 0, 0), got, damaged)
+        else:
+            reads = [of(r.read, damaged, i, WIDE_WORK, 1024) for i in range(columns)]
+            faulty = [i for i, x in enumerate(reads) if x == ("refused", 9)]
+            line = b"refused 9 column %d\n" % faulty[0]
+            same("first at fault", (r.listing(damaged), r.board_text(damaged)), (line, line), damaged)
+
+
+start = time.time()
+for i in range(ROUNDS):
+    turn = i % 10
+    if turn < 4:
+        round_body((r.CODES[i // 10 % 6],), rnd.randrange(2))
+    elif turn < 7:
+        kind = rnd.randrange(2)
+        round_body(random_tree(kind), kind)
+    elif turn < 8:
+        round_plan()
+    else:
+        round_sheet()
+for code in r.CODES:            # the longest lists, the worst numbers
+    for numbers in (1024 * [MAX], 1024 * [0], [random_number() for _ in range(1024)]):
+        body = r.write_code(code, numbers)
+        same("long", of(r.read_code, code, body, 1024), numbers, code)
+        same("long worst", len(body) <= r.worst(fill((code,)), 1024), True, code)
+        same("long lookup", of(r.lookup_code, code, body, 1024, 1023), numbers[1023], code)
+        if numbers[0] == MAX == numbers[1]:
+            same("worst reached", len(body), r.worst(fill((code,)), 1024), code)
+print("%d rounds, seed %d, %d differ, %.0f s; %s"
+      % (ROUNDS, SEED, differ, time.time() - start,
+         ", ".join("%s %d" % (k, seen[k]) for k in sorted(seen))))
+sys.exit(1 if differ else 0)
