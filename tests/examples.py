@@ -151,6 +151,15 @@ ROOMY = sheet((0, plan(3), 6, ROOM))
 case("room in a block: check", named(r.check, ROOMY, 48), ("refused", 9, 0))
 case("room in a block: reader", r.calls(ROOMY, 0, 8),
      [("number", i) for i in range(1, 7)] + 2 * [R(6)])
+for name, text, numbers in (
+        ("1 byte into 1", "80 01 02 03 04 05 06 07 00" "FE 08 00 00 00 00 00 00 00",
+         [1, 2, 3, 4, 5, 6, 7, 8]),
+        ("3 bytes into 3", "E0 01 02 03 04 05 00 00 00" "FB 00 00 01 00 00 00 00 00",
+         [1, 2, 3, 4, 5, 65536])):
+    n = len(numbers)
+    case("room in a block: %s read" % name, of(r.read_code, 3, hexa(text), n), R(9))
+    case("room in a block: %s looked up" % name,
+         [of(r.lookup_code, 3, hexa(text), n, i) for i in range(n)], numbers)
 code_example("no room in a block", 3, [1, 2, 3, 4, 5, 1 << 24],
              "E0 01 02 03 04 05 00 00 00" "F7 00 00 00 01 00 00 00 00")
 
@@ -161,6 +170,8 @@ for name, text, n in (("no zero bit", "FF 00 00 00 00 00 00 00 00", 1),
                       ("a number beyond the list", "FC 06 07 00 00 00 00 00 00", 1),
                       ("waste of 4, list goes on", "F0 01 02 03 04 00 00 00 00"
                                                    "F7 00 00 00 01 00 00 00 00", 5),
+                      ("a number beyond the list, little waste",
+                       "E0 01 02 03 04 05 00 00 00", 4),
                       ("not fewest bytes", "FD 06 00 00 00 00 00 00 00", 1),
                       ("block cut short", "FE 06 00 00 00 00 00 00", 1)):
     case("G8IU " + name + " read", of(r.read_code, 3, hexa(text), n), R(9))
@@ -238,7 +249,15 @@ case("6 total not asked", of(r.lookup_plan, tree(18, 1, 1), TOTAL, 4, 2), 7)
 case("6 running sum above the count", of(r.lookup_plan, tree(18, 1, 1), TOTAL, 4, 3), R(9))
 case("6 runs end too soon", of(r.lookup_plan, tree(18, 1, 1), TOTAL[:-1] + b"\1", 5, 4), R(9))
 case("6 zero length", of(r.lookup_plan, tree(18, 1, 1), TOTAL[:-2] + b"\0\4", 4, 0), R(9))
-case("6 run count above the count", of(r.lookup_plan, tree(18, 1, 1), TOTAL, 1, 0), R(9))
+case("6 run count above the count",
+     of(r.lookup_plan, tree(18, 1, 1), hexa("02 00 00 00 02 00 00 00 07 09 01 01"), 1, 0), R(9))
+case("6 total above the count read", of(r.read_plan, tree(18, 1, 1), TOTAL, 4), R(9))
+case("6 total below the count read", of(r.read_plan, tree(18, 1, 1), TOTAL[:-1] + b"\1", 5), R(9))
+case("6 zero length read", of(r.read_plan, tree(18, 1, 1), TOTAL[:-2] + b"\4\0", 4), R(9))
+case("6 zero length after the place", of(r.lookup_plan, tree(18, 1, 1), TOTAL[:-2] + b"\4\0", 4, 3),
+     7)
+case("6 values body must fit, read", of(r.read_plan, tree(18, 1, 1), hexa("00000000 01000000"), 0),
+     R(9))
 case("6 values body must fit", of(r.lookup_plan, tree(18, 1, 1),
                                   hexa("01 00 00 00 05 00 00 00 07 01"), 1, 0), R(9))
 case("6 control bytes must fit", of(r.lookup_code, 4, hexa("00"), 5, 0), R(9))
@@ -250,6 +269,9 @@ case("7 both blocks taken, fit not asked", of(r.lookup_code, 3, ROOM, 6, 5), 6)
 LONG = hexa("EF 01 00 00 00 00 00 00 00")
 case("7 number of 5 bytes read", of(r.read_code, 3, LONG, 1), R(9))
 case("7 number of 5 bytes looked up", of(r.lookup_code, 3, LONG, 1, 0), R(9))
+LONG = hexa("EF 01 00 00 00 01 00 00 00")
+case("7 number of 5 full bytes read", of(r.read_code, 3, LONG, 1), R(9))
+case("7 number of 5 full bytes looked up", of(r.lookup_code, 3, LONG, 1, 0), R(9))
 
 HIGH = hexa("FF FF FF FF 01 00")
 case("8 reference, place 0", of(r.lookup_plan, tree(16, 1), HIGH, 2, 0), R(9))

@@ -122,7 +122,7 @@ def write_code(code, numbers):
 
 def unit_vbyte(body, at, left):
     x = 0
-    for i in range(5):                                  # at most 5 bytes
+    for i in range(5):                                  # at most 5 bytes; the fifth is the last
         fault_if(at + i >= len(body))
         byte = body[at + i]
         fault_if(i == 4 and byte > 15)                  # the fifth at most 15
@@ -172,12 +172,11 @@ def unit_block(body, at, left):
     return numbers, at + 9
 
 def bits_at(body, at, many):
-    """So many bits of the body from bit `at`, as a number."""
-    fault_if(at + many > 8 * len(body))
-    x = 0
-    for i in range(at, at + many):
-        x = 2 * x + ((body[i // 8] >> (7 - i % 8)) & 1)
-    return x
+    """So many bits of the body from bit `at`, highest bit of each byte first, as a number."""
+    end = at + many
+    fault_if(end > 8 * len(body))
+    whole = int.from_bytes(body[at // 8:up(end, 8)], "big")     # the bytes that hold them
+    return (whole >> (-end % 8)) % 2**many
 
 def gamma_at(body, at, most):
     """A gamma codeword's v, which may be `most`, and the bit after it."""

@@ -119,6 +119,44 @@ def damage(data):
     return bytes(data)
 
 
+def loose(tree, numbers):
+    """A body with the same numbers, written against rules that only reading asks: G8IU blocks
+    with room, split runs, a reference below the least, spare bits, leftover bytes."""
+    if tree[0] == r.G8IU:
+        body, at = b"", 0
+        while at < len(numbers):
+            block = numbers[at:at + 8]
+            while sum(r.fewest(x) for x in block) > 8:
+                block.pop()
+            if sum(r.fewest(x) for x in block[:-1]) >= 5 and rnd.random() < 0.5:
+                block.pop()
+            body += r.write_code(r.G8IU, block)
+            at += len(block)
+    elif tree[0] in r.CODES:
+        body = r.write_code(tree[0], numbers)
+        if tree[0] in (r.GAMMA, r.DELTA) and body and rnd.random() < 0.5:
+            bits = r.gamma_bits if tree[0] == r.GAMMA else r.delta_bits
+            spare = -sum(len(bits(x + 1)) for x in numbers) % 8
+            body = body[:-1] + bytes([body[-1] + rnd.randrange(2**spare)])
+    elif tree[0] == r.REFERENCE:
+        least = min(numbers, default=rnd.randrange(9))
+        least -= rnd.choice((0, 0, min(least, 1), rnd.randint(0, least)))
+        return r.u32(least) + loose(tree[1], [x - least for x in numbers])
+    elif tree[0] == r.DIFFERENCES:
+        return loose(tree[1], [b - a for a, b in zip([0] + numbers, numbers)])
+    else:
+        values, lengths = [], []
+        for x in numbers:
+            if values and values[-1] == x and rnd.random() < 0.8:
+                lengths[-1] += 1
+            else:
+                values.append(x)
+                lengths.append(1)
+        body = loose(tree[1], values)
+        return r.u32(len(values)) + r.u32(len(body)) + body + loose(tree[2], lengths)
+    return body + (bytes(rnd.randrange(3)) if rnd.random() < 0.1 else b"")
+
+
 # ------------------------------------------------------------ the lookup in the document's words
 
 def literal(tree, body, n, place):
@@ -210,6 +248,18 @@ def round_body(tree, kind):
         count("damaged bodies refused")
         same("refused by 9", got, ("refused", 9), tree, damaged, m)
         lookups(tree, damaged, m, None)
+
+
+def round_loose(tree, kind):
+    """Lookups find the numbers of a loose body; reading refuses it unless it is the strict one."""
+    n = random_count()
+    numbers = random_list(kind, n)
+    body = loose(tree, numbers)
+    strict = body == r.write_plan(tree, numbers)
+    count("loose bodies read" if strict else "loose bodies refused")
+    same("loose read", of(r.read_plan, tree, body, n), numbers if strict else ("refused", 9),
+         tree, body, n)
+    lookups(tree, body, n, numbers)
 
 
 def round_plan():
@@ -312,12 +362,13 @@ def round_sheet():
 
 start = time.time()
 for i in range(ROUNDS):
-    turn = i % 10
-    if turn < 4:
-        round_body((r.CODES[i // 10 % 6],), rnd.randrange(2))
-    elif turn < 7:
-        kind = rnd.randrange(2)
+    turn, kind, code = i % 10, rnd.randrange(2), (r.CODES[i // 10 % 6],)
+    if turn < 3:
+        round_body(code, kind)
+    elif turn < 6:
         round_body(random_tree(kind), kind)
+    elif turn < 7:
+        round_loose(code if rnd.random() < 0.4 else random_tree(kind), kind)
     elif turn < 8:
         round_plan()
     else:

@@ -1,10 +1,11 @@
 -- What contracts say of slices: bounds on their elements, and what a reading leaves in the work slice.
-use Prim.Native.Nat.{ℕ, _+_, _<_, _≤_}
+use Prim.Native.Nat.{ℕ, _+_, _*_, _^_, _<_, _≤_}
 use mathlib.Core.Path.{_≡_}
 use mathlib.Core.List.{List}
 use lib.ListN.{length, getD, take, drop}
 use lib.Seq.{sets}
 use Rattle.meaning.specs.Answer.{Answer, given, amount}
+use Rattle.meaning.specs.Limits.{mostBytes}
 use Rattle.meaning.specs.Says.{unitSays, unitCount, readingSays}
 use Rattle.meaning.specs.declared.Offset.{Offset}
 use Rattle.meaning.specs.declared.Position.{Position}
@@ -34,3 +35,13 @@ pub record Got (a : Answer (List ℕ)) (from : ℕ) (work work′ : List ℕ) (r
   pub told : readingSays r ≡ amount a
   pub here : (xs : List ℕ) → a ≡ given xs → part work′ from (length xs) ≡ xs
   pub kept : take from work′ ≡ take from work
+
+-- what writing asks: the list stands in the slice, and no offset passes the largest number
+pub record Source (list : List ℕ) (from n at : ℕ) : Type 0 where
+  pub inside : from + n ≤ length list
+  pub short : at + 9 * n < 2 ^ 63
+
+-- what reading asks: work has room for the list, and the body is no longer than a sheet
+pub record Target (body work : List ℕ) (from n : ℕ) : Type 0 where
+  pub inside : from + n ≤ length work
+  pub short : length body ≤ mostBytes

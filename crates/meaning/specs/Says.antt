@@ -31,6 +31,11 @@ abbrev pub unitCount : UnitTold → ℕ
 unitCount (unit.Next p k) = k
 unitCount (unit.Refused e) = 0
 
+-- the number of its refusal; accepted is number 0
+abbrev pub unitRefusal : UnitTold → ℕ
+unitRefusal (unit.Next p k) = 0
+unitRefusal (unit.Refused e) = e
+
 abbrev pub judgedSays : Judged → Answer (Unit {0})
 judgedSays judged.Passed = given tt
 judgedSays (judged.Refused e) = refused e

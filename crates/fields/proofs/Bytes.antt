@@ -1,0 +1,44 @@
+-- Numbers in bytes: written, read, and back. Assumes nothing.
+use Prim.Native.Nat.{ℕ, zero, suc, _+_, _*_, _/_, _%_, _^_, _≤_, _<_}
+use mathlib.Core.Path.{_≡_, refl, sym, ap, ap₂, _∙_}
+use mathlib.Core.List.{List, [], _∷_, _++_}
+use native.Mathlib.Nat.{pow-suc}
+use native.Mathlib.Omega.{arith}
+use lib.ListN.{length, take}
+use lib.Seq.{take-at}
+use Rattle.meaning.specs.Bytes.{bytesOf, numberOf, word, wordAt}
+use Rattle.meaning.specs.Places.{Below}
+use Rattle.meaning.proofs.Bounds.{below-nil, below-cons}
+
+pub bytes-length : (k x : ℕ) → length (bytesOf k x) ≡ k
+unfolding bytesOf
+bytes-length zero x = refl
+bytes-length (suc k) x = ap suc (bytes-length k (x / 256))
+
+pub bytes-small : (k x : ℕ) → Below 256 (bytesOf k x)
+unfolding bytesOf
+bytes-small zero x = below-nil 256 (omega arith)
+bytes-small (suc k) x = below-cons 256 (x % 256) (bytesOf k (x / 256)) (omega arith) (bytes-small k (x / 256))
+
+-- k bytes hold x
+pub number-bytes : (k x : ℕ) → x < 256 ^ k → numberOf (bytesOf k x) ≡ x
+unfolding bytesOf numberOf
+number-bytes zero x h = omega arith
+number-bytes (suc k) x h =
+    let h′ : x < 256 ^ k * 256 = rw pow-suc at h in
+    rw (number-bytes k (x / 256) (omega arith)) (omega arith)
+
+pub number-small : (bs : List ℕ) → Below 256 bs → numberOf bs < 256 ^ length bs
+unfolding numberOf
+number-small [] h = omega arith
+number-small (b ∷ bs) h = rw (pow-suc 256 (length bs)) (omega (arith, h 0, number-small bs (λ i. h (suc i))))
+
+-- the bytes of the number that bytes make
+pub bytes-number : (bs : List ℕ) → Below 256 bs → bytesOf (length bs) (numberOf bs) ≡ bs
+unfolding bytesOf numberOf
+bytes-number [] h = refl
+bytes-number (b ∷ bs) h =
+    let lt : b < 256 = h 0 in
+    let low : (b + 256 * numberOf bs) % 256 ≡ b = omega arith in
+    let high : (b + 256 * numberOf bs) / 256 ≡ numberOf bs = omega arith in
+    rw (low, high, bytes-number bs (λ i. h (suc i)))

@@ -1,0 +1,161 @@
+-- Numbers in the fewest bytes, for codes 2, 3 and 4: a list's fields read back as the list, and what reads as a list are its fields. Assumes nothing.
+use Prim.Native.Nat.{ℕ, zero, suc, _+_, _-_, _*_, _/_, _%_, _^_, _≤_, _<_}
+use mathlib.Core.Path.{_≡_, refl, sym, ap, ap₂, _∙_, subst}
+use mathlib.Core.Bool.{Bool, true, false, cond}
+use mathlib.Core.List.{List, [], _∷_, _++_, append-assoc, map}
+use native.Mathlib.Nat.{lt-of-lt-of-le}
+use native.Mathlib.Omega.{arith}
+use lib.Count.{leadingZeros, leading-length}
+use lib.Pow.{pow-mono}
+use lib.Dec.{eqb}
+use lib.ListN.{length, getD, take, drop, length-append, length-drop, length-take}
+use lib.Seq.{take-at, drop-at, take-add, length-take-le, take-append-seam}
+use borrow.Author.Tests.{lt-ltb, le-ltb, eq-eqb, eqb-true}
+use Rattle.meaning.specs.Answer.{Answer, given, refused, bind, need}
+use Rattle.meaning.specs.Limits.{fault, numberLimit}
+use Rattle.meaning.specs.Lists.{sum, joined}
+use Rattle.meaning.specs.Bytes.{bytesOf, numberOf}
+use Rattle.meaning.specs.Fields.{byteLength, fewest, fields, fieldsIn}
+use Rattle.meaning.specs.Places.{Below}
+use Rattle.meaning.proofs.Answers.{bind-given, need-given}
+use Rattle.meaning.proofs.Bounds.{below-nil, below-cons, below-append, below-take, below-drop}
+use Rattle.meaning.proofs.Tests.{by-order}
+use Rattle.fields.proofs.Bytes.{bytes-length, bytes-small, number-bytes, number-small, bytes-number}
+use Rattle.leaves.proofs.Joined.{joined-append}
+
+-- ---- how many bytes hold a number
+-- x lies between the powers that its length says
+pub record Held (x l : ℕ) : Type 0 where
+  pub least : 1 ≤ l
+  pub most : l ≤ 4
+  pub above : x < numberLimit → x < 256 ^ l
+  pub below : 1 < l → 256 ^ (l - 1) ≤ x
+
+pub held : (x : ℕ) → Held x (byteLength x)
+unfolding byteLength
+held x =
+    by-order x (2 ^ 8)
+    (λ a. rw (lt-ltb x (2 ^ 8) a) (record { least = omega arith; most = omega arith; above = λ h. a; below = λ h. absurd (omega arith) }))
+    (λ a. by-order x (2 ^ 16)
+    (λ b. rw (le-ltb x (2 ^ 8) a, lt-ltb x (2 ^ 16) b) (record { least = omega arith; most = omega arith; above = λ h. b; below = λ h. a }))
+    (λ b. by-order x (2 ^ 24)
+    (λ c. rw (le-ltb x (2 ^ 8) a, le-ltb x (2 ^ 16) b, lt-ltb x (2 ^ 24) c) (record { least = omega arith; most = omega arith; above = λ h. c; below = λ h. b }))
+    (λ c. rw (le-ltb x (2 ^ 8) a, le-ltb x (2 ^ 16) b, le-ltb x (2 ^ 24) c) (record { least = omega arith; most = omega arith; above = λ h. h; below = λ h. c }))))
+
+pub few-length : (x : ℕ) → length (fewest x) ≡ byteLength x
+unfolding fewest
+few-length x = bytes-length (byteLength x) x
+
+pub few-small : (x : ℕ) → Below 256 (fewest x)
+unfolding fewest
+few-small x = bytes-small (byteLength x) x
+
+pub few-number : (x : ℕ) → x < numberLimit → numberOf (fewest x) ≡ x
+unfolding fewest
+few-number x h = number-bytes (byteLength x) x (held x .above h)
+
+-- ---- a list's fields
+pub fields-cons : (x : ℕ) (xs : List ℕ) → fields (x ∷ xs) ≡ fewest x ++ fields xs
+unfolding fields joined
+fields-cons x xs = refl
+
+pub fields-append : (xs ys : List ℕ) → fields (xs ++ ys) ≡ fields xs ++ fields ys
+unfolding fields
+fields-append xs ys = joined-append fewest xs ys
+
+pub fields-length : (xs : List ℕ) → length (fields xs) ≡ sum (map byteLength xs)
+unfolding fields joined sum
+fields-length [] = refl
+fields-length (x ∷ xs) = length-append (fewest x) (joined fewest xs) ∙ ap₂ _+_ (few-length x) (fields-length xs)
+
+pub fields-most : (xs : List ℕ) → length (fields xs) ≤ 4 * length xs
+unfolding fields joined
+fields-most [] = omega arith
+fields-most (x ∷ xs) = simp length-append (omega (arith, few-length x, held x .most, fields-most xs))
+
+pub fields-small : (xs : List ℕ) → Below 256 (fields xs)
+unfolding fields joined
+fields-small [] = below-nil 256 (omega arith)
+fields-small (x ∷ xs) = below-append 256 (fewest x) (joined fewest xs) (few-small x) (fields-small xs)
+
+-- ---- written and read
+pub fields-written : (xs rest : List ℕ) → Below numberLimit xs → fieldsIn (map byteLength xs) (fields xs ++ rest) ≡ given xs
+unfolding fieldsIn fields joined
+fields-written [] rest h = refl
+fields-written (x ∷ xs) rest h =
+    let t : take (byteLength x) ((fewest x ++ joined fewest xs) ++ rest) ≡ fewest x =
+    rw (append-assoc (fewest x) (joined fewest xs) rest) (take-at (fewest x) (joined fewest xs ++ rest) (byteLength x) (few-length x)) in
+    let d : drop (byteLength x) ((fewest x ++ joined fewest xs) ++ rest) ≡ joined fewest xs ++ rest =
+    rw (append-assoc (fewest x) (joined fewest xs) rest) (drop-at (fewest x) (joined fewest xs ++ rest) (byteLength x) (few-length x)) in
+    rw (t, d, few-number x (h 0), eq-eqb (byteLength x) (byteLength x) refl, fields-written xs rest (λ i. h (suc i)))
+
+-- what a list says that was read from fields of lengths ls
+pub record FieldsAre (ls bytes xs : List ℕ) : Type 0 where
+  pub lengths : map byteLength xs ≡ ls
+  pub is : take (sum ls) bytes ≡ fields xs
+  pub small : Below numberLimit xs
+
+-- a first field more
+field-more : (l : ℕ) (ls bytes xs : List ℕ) → Below 256 bytes → l ≤ length bytes → byteLength (numberOf (take l bytes)) ≡ l → FieldsAre ls (drop l bytes) xs
+    → FieldsAre (l ∷ ls) bytes (numberOf (take l bytes) ∷ xs)
+unfolding fields joined sum fewest
+field-more l ls bytes xs h fits e f =
+    let x = numberOf (take l bytes) in
+    let n : length (take l bytes) ≡ l = length-take-le l bytes fits in
+    let b = below-take 256 l bytes h in
+    let back : bytesOf l x ≡ take l bytes = ap (λ (k : ℕ). bytesOf k x) (sym n) ∙ bytes-number (take l bytes) b in
+    let lt : x < 256 ^ l = subst (λ (k : ℕ). x < 256 ^ k) n (number-small (take l bytes) b) in
+    record {
+      lengths = ap₂ (λ (a : ℕ) (r : List ℕ). a ∷ r) e (f .lengths);
+      is = take-add l (sum ls) bytes ∙ ap₂ _++_ (sym back ∙ ap (λ (k : ℕ). bytesOf k x) (sym e)) (f .is);
+      small = below-cons numberLimit x xs (four l x (subst (λ (k : ℕ). k ≤ 4) e (held x .most)) lt) (f .small);
+    }
+  where
+    four : (k x : ℕ) → k ≤ 4 → x < 256 ^ k → x < numberLimit
+    four zero x m g = omega arith
+    four (suc zero) x m g = omega arith
+    four (suc (suc zero)) x m g = omega arith
+    four (suc (suc (suc zero))) x m g = omega arith
+    four (suc (suc (suc (suc zero)))) x m g = g
+    four (suc (suc (suc (suc (suc k))))) x m g = absurd (omega arith)
+
+pub fields-back : (ls bytes xs : List ℕ) → Below 256 bytes → sum ls ≤ length bytes → fieldsIn ls bytes ≡ given xs → FieldsAre ls bytes xs
+unfolding fieldsIn sum fields joined
+fields-back [] bytes xs h fits e =
+    let is : [] ≡ xs = cc in
+    subst (FieldsAre [] bytes) is (record { lengths = refl; is = refl; small = below-nil numberLimit (omega arith) })
+fields-back (l ∷ ls) bytes xs h fits e =
+    let (t, e₁) = need-given (eqb (byteLength (numberOf (take l bytes))) l) fault _ xs e in
+    let (ys, ey, e₂) = bind-given (fieldsIn ls (drop l bytes)) _ xs e₁ in
+    let is : numberOf (take l bytes) ∷ ys ≡ xs = cc in
+    subst (FieldsAre (l ∷ ls) bytes) is
+    (field-more l ls bytes ys h (omega arith) (eqb-true _ l t)
+    (fields-back ls (drop l bytes) ys (below-drop 256 l bytes h) (omega (arith, length-drop l bytes)) ey))
+
+-- ---- by the count of leading zeros: x has m binary digits
+module _ (x : ℕ) (h : x < 2 ^ 32) where
+  fits : (m k : ℕ) → x < 2 ^ m → m ≤ k → x < 2 ^ k
+  fits m k l e = lt-of-lt-of-le l (pow-mono e)
+
+  pub length-of-zero : leadingZeros 32 x ≡ 32 → 1 ≡ byteLength x
+  unfolding byteLength
+  length-of-zero e =
+      let t = leading-length 32 x h in
+      let s : x < 1 = fits (t .0) 0 (t .2) (omega (arith, t .1)) in
+      simp (lt-ltb x (2 ^ 8) (omega arith))
+
+  by-digits : (m : ℕ) → leadingZeros 32 x + m ≡ 32 → x < 2 ^ m → 2 ^ m ≤ 2 * x + 1 → (leadingZeros 32 x ≡ 32 → ⊥) → 4 - leadingZeros 32 x / 8 ≡ byteLength x
+  unfolding byteLength
+  by-digits m e lo hi some =
+      by-order 8 m
+      (λ a. let p : 2 ^ 8 ≤ x = omega (arith, pow-mono {i = 9} {j = m} a) in
+      by-order 16 m
+      (λ b. let q : 2 ^ 16 ≤ x = omega (arith, pow-mono {i = 17} {j = m} b) in
+      by-order 24 m
+      (λ c. let r : 2 ^ 24 ≤ x = omega (arith, pow-mono {i = 25} {j = m} c) in simp (le-ltb x (2 ^ 8) p, le-ltb x (2 ^ 16) q, le-ltb x (2 ^ 24) r) (omega arith))
+      (λ c. let r : x < 2 ^ 24 = fits m 24 lo c in simp (le-ltb x (2 ^ 8) p, le-ltb x (2 ^ 16) q, lt-ltb x (2 ^ 24) r) (omega arith)))
+      (λ b. let q : x < 2 ^ 16 = fits m 16 lo b in simp (le-ltb x (2 ^ 8) p, lt-ltb x (2 ^ 16) q) (omega arith)))
+      (λ a. let p : x < 2 ^ 8 = fits m 8 lo a in simp (lt-ltb x (2 ^ 8) p) (omega arith))
+
+  pub length-of-some : (leadingZeros 32 x ≡ 32 → ⊥) → 4 - leadingZeros 32 x / 8 ≡ byteLength x
+  length-of-some some = let t = leading-length 32 x h in by-digits (t .0) (t .1) (t .2) (t .3) some

@@ -1,0 +1,4 @@
+-- Laws of numbers in bytes, which codes 2, 3 and 4 share.
+pub mod Bytes
+pub mod Fields
+pub mod Straight

@@ -1,0 +1,80 @@
+// Numbers in bytes, least significant first: in the fewest that hold them, and in 4.
+use leaves::put;
+use leaves::wide;
+ghost use mathlib.Core.Path.{_≡_};
+ghost use Prim.Native.Nat.{_<_, _+_, _≤_, _^_};
+ghost use lib.ListN.{length, take, drop};
+ghost use lib.Seq.{sets};
+ghost use Rattle.meaning.specs.Bytes.{numberOf, word, wordAt};
+ghost use Rattle.meaning.specs.Fields.{byteLength, fewest};
+
+// How many bytes hold x: zero takes one.
+pub fn byte_length(x: u32) -> usize
+    ensures { λ r. ⌜ r ≡ byteLength x ⌝ }
+{
+    let z = u32::leading_zeros(x);
+    if z == 32 {
+        return 1;
+    }
+    (4 - z / 8) as usize
+}
+
+// The number in 1 to 4 bytes from an offset on.
+pub fn number_at(bytes: &[u8], at: usize, len: usize) -> u32
+    requires { ⌜ (1 ≤ len) × (len ≤ 4) × (at + len ≤ length (now bytes)) ⌝ }
+    ensures { λ r. ⌜ r ≡ numberOf (take len (drop at (now (bytes .entry)))) ⌝ }
+{
+    let a = wide(bytes[at]);
+    if len == 1 {
+        return a;
+    }
+    let b = a + 256 * wide(bytes[at + 1]);
+    if len == 2 {
+        return b;
+    }
+    let c = b + 65536 * wide(bytes[at + 2]);
+    if len == 3 {
+        return c;
+    }
+    c + 16777216 * wide(bytes[at + 3])
+}
+
+// The number in the 4 bytes from an offset on.
+pub fn word_at(bytes: &[u8], at: usize) -> u32
+    requires { ⌜ at + 4 ≤ length (now bytes) ⌝ }
+    ensures { λ r. ⌜ r ≡ wordAt (now (bytes .entry)) at ⌝ }
+{
+    number_at(bytes, at, 4)
+}
+
+// A number is put in its fewest bytes. Answers where they end.
+pub fn put_fewest(out: &mut [u8], at: usize, x: u32) -> usize
+    requires { ⌜ at + 4 < 2 ^ 64 ⌝ }
+    ensures { λ r. ⌜ (r ≡ at + byteLength x) × (now (out .exit) ≡ sets (now (out .entry)) at (fewest x)) ⌝ }
+{
+    put(out, at, (x % 256) as u8);
+    if x < 256 {
+        return at + 1;
+    }
+    put(out, at + 1, (x / 256 % 256) as u8);
+    if x < 65536 {
+        return at + 2;
+    }
+    put(out, at + 2, (x / 65536 % 256) as u8);
+    if x < 16777216 {
+        return at + 3;
+    }
+    put(out, at + 3, (x / 16777216 % 256) as u8);
+    at + 4
+}
+
+// A number is put in 4 bytes.
+pub fn put_word(out: &mut [u8], at: usize, x: u32)
+    requires { ⌜ at + 4 < 2 ^ 64 ⌝ }
+    ensures { λ _. ⌜ now (out .exit) ≡ sets (now (out .entry)) at (word x) ⌝ }
+{
+    put(out, at, (x % 256) as u8);
+    put(out, at + 1, (x / 256 % 256) as u8);
+    put(out, at + 2, (x / 65536 % 256) as u8);
+    put(out, at + 3, (x / 16777216 % 256) as u8);
+}

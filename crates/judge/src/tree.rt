@@ -1,0 +1,98 @@
+// What is said of the plan that begins at an offset, stage by stage; the stages that may still come fall with each.
+use crate::stage::Stage;
+use crate::stage::plan_end;
+use crate::stage::stage_at;
+use meaning::Offset;
+ghost use mathlib.Core.Path.{_≡_};
+ghost use Prim.Native.Nat.{_≤_};
+ghost use Rattle.meaning.specs.Codes.{Code, codeOf, worstGroups};
+ghost use Rattle.meaning.specs.Limits.{mostNumbers, mostStages};
+ghost use Rattle.meaning.specs.Plan.{planAt, good, passes, worstPlan};
+
+// Whether it is well formed up to its end.
+pub fn good_plan(plan: &[u8], at: Offset, stages: usize) -> bool
+    ensures { λ r. ⌜ r ≡ good (planAt stages (now (plan .entry)) (at .byte)) ⌝ }
+{
+    match stage_at(plan, at, stages) {
+        Stage::Bad => false,
+        Stage::Code(_) => true,
+        Stage::Reference(next, less) => good_plan(plan, next, less),
+        Stage::Differences(next, less) => good_plan(plan, next, less),
+        Stage::Runs(next, less) => {
+            if good_plan(plan, next, less) {
+                let second = plan_end(plan, next, less);
+                good_plan(plan, second, less)
+            } else {
+                false
+            }
+        }
+    }
+}
+
+// Whether it passes for a list of a kind: differences need a rising list, and what they and a run's lengths hand on is of any kind.
+pub fn passes_plan(plan: &[u8], at: Offset, stages: usize, kind: u8) -> bool
+    ensures { λ r. ⌜ r ≡ passes kind (planAt stages (now (plan .entry)) (at .byte)) ⌝ }
+{
+    match stage_at(plan, at, stages) {
+        Stage::Bad => false,
+        Stage::Code(_) => true,
+        Stage::Reference(next, less) => passes_plan(plan, next, less, kind),
+        Stage::Differences(next, less) => {
+            if kind == 1 {
+                passes_plan(plan, next, less, 0)
+            } else {
+                false
+            }
+        }
+        Stage::Runs(next, less) => {
+            if passes_plan(plan, next, less, kind) {
+                let second = plan_end(plan, next, less);
+                passes_plan(plan, second, less, 0)
+            } else {
+                false
+            }
+        }
+    }
+}
+
+// Codes 2 and 4: a control byte for every four numbers.
+fn worst_groups(n: usize) -> usize
+    requires { ⌜ n ≤ mostNumbers ⌝ }
+    ensures { λ r. ⌜ r ≡ worstGroups n ⌝ }
+{
+    4 * n + (n + 3) / 4
+}
+
+// The worst size of n numbers by a code.
+pub fn worst_code(code: u8, n: usize) -> usize
+    requires { ⌜ n ≤ mostNumbers ⌝ }
+    ensures { λ r. ⌜ r ≡ codeOf code .worst n ⌝ }
+{
+    match code {
+        1 => 5 * n,
+        2 => worst_groups(n),
+        3 => (n + 1) / 2 * 9,
+        4 => worst_groups(n),
+        5 => (65 * n + 7) / 8,
+        _ => (43 * n + 7) / 8,
+    }
+}
+
+// The worst size of n numbers by the plan.
+pub fn worst_plan(plan: &[u8], at: Offset, stages: usize, n: usize) -> usize
+    requires { ⌜ (stages ≤ mostStages) × (n ≤ mostNumbers) ⌝ }
+    ensures { λ r. ⌜ r ≡ worstPlan (planAt stages (now (plan .entry)) (at .byte)) n ⌝ }
+{
+    match stage_at(plan, at, stages) {
+        Stage::Bad => 0,
+        Stage::Code(code) => worst_code(code, n),
+        Stage::Reference(next, less) => 4 + worst_plan(plan, next, less, n),
+        Stage::Differences(next, less) => worst_plan(plan, next, less, n),
+        Stage::Runs(next, less) => {
+            let second = plan_end(plan, next, less);
+            let values = worst_plan(plan, next, less, n);
+            let lengths = worst_plan(plan, second, less, n);
+            8 + (values + lengths)
+        }
+    }
+}

@@ -1,0 +1,2 @@
+-- Laws that several codes cite.
+pub mod Joined
