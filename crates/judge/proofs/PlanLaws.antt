@@ -1,7 +1,7 @@
 -- What stands at an offset of the plan bytes says which plan begins there. The bytes meet the tree only here: the other proofs cite the five laws
 -- at the end. Assumes nothing.
-use Prim.Native.Nat.{ℕ, zero, suc, _+_, _-_, _≤_, _<_}
-use mathlib.Core.Path.{_≡_, refl, sym, ap, _∙_, subst}
+use Prim.Native.Nat.{ℕ, zero, suc, _+_, _-_, _<_}
+use mathlib.Core.Path.{_≡_, refl, ap, _∙_, subst}
 use mathlib.Core.Bool.{Bool, true, false, _&&_, cond}
 use mathlib.Core.List.{List}
 use native.Mathlib.Numerals.{sub-one}
@@ -13,7 +13,7 @@ use Rattle.meaning.specs.Codes.{isCode}
 use Rattle.meaning.specs.Plan.{Plan, bad, code, reference, differences, runs, planSize, planBy, planAt}
 use Rattle.meaning.specs.declared.Offset.{Offset}
 use Rattle.meaning.proofs.Tests.{by-order, both-true}
-use Rattle.judge.specs.Stage.{stageBy, stageAt}
+use Rattle.judge.specs.Stage.{stageAt}
 use Rattle.judge.specs.declared.stage.Stage.{Stage}
 use Rattle.judge.specs.declared.stage.Stage.the-variants.{Bad, Code, Reference, Differences, Runs}
 

@@ -1,5 +1,5 @@
 -- What `is_code`, `stage_at` and `plan_end` answer. Assumes nothing.
-use Prim.Native.Nat.{ℕ, zero, suc, _+_, _-_, _≤_, _<_}
+use Prim.Native.Nat.{ℕ, _+_, _-_, _≤_, _<_}
 use mathlib.Core.Path.{_≡_, refl, sym, ap, _∙_}
 use mathlib.Core.Bool.{Bool, true, false, _&&_, cond}
 use mathlib.Core.List.{List}
@@ -8,10 +8,9 @@ use lib.Dec.{leb, eqb}
 use lib.ListN.{length, getD, List·getD-eq-default}
 use borrow.Author.Tests.{le-leb, lt-leb, ne-eqb}
 use Rattle.meaning.specs.Codes.{isCode}
-use Rattle.meaning.specs.Plan.{Plan, runs, planSize, planAt}
+use Rattle.meaning.specs.Plan.{planSize, planAt}
 use Rattle.meaning.specs.declared.Offset.{Offset}
-use Rattle.judge.specs.Stage.{stageBy, stageAt}
-use Rattle.judge.specs.declared.stage.Stage.{Stage}
+use Rattle.judge.specs.Stage.{stageAt}
 use Rattle.judge.specs.declared.stage.Stage.the-variants.{Bad, Code, Reference, Differences, Runs}
 
 pub code-low : (b : ℕ) → b < 1 → false ≡ isCode b

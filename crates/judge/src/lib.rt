@@ -1,7 +1,8 @@
-// Plans: judged for a kind, and their worst size. Everything here is total: a plan of any length and any bytes is answered.
+// Plans: judged for a kind, and their worst size. A plan of any length and any bytes is answered.
+use crate::stage::plan_end;
+use crate::tree::RISING;
 use crate::tree::good_plan;
 use crate::tree::passes_plan;
-use crate::stage::plan_end;
 use crate::tree::worst_plan;
 use meaning::Judged;
 use meaning::Offset;
@@ -9,6 +10,8 @@ use meaning::Sized;
 ghost use mathlib.Core.Path.{_≡_};
 ghost use lib.Dec.{eqb};
 ghost use lib.ListN.{drop};
+ghost use Rattle.meaning.specs.Answer.{need};
+ghost use Rattle.meaning.specs.Limits.{badOrders};
 ghost use Rattle.meaning.specs.Lists.{all};
 ghost use Rattle.meaning.specs.Plan.{wellFormed, judgePlan, judge as judgeOf, worstSize};
 ghost use Rattle.meaning.specs.Says.{judgedSays, sizedSays};
@@ -16,16 +19,23 @@ ghost use Rattle.meaning.specs.Says.{judgedSays, sizedSays};
 pub mod stage;
 pub mod tree;
 
-// What document 01 sets: bytes a plan, stages over a code, numbers a list, kinds.
+// A plan's length.
 const PLAN_BYTES: usize = 15;
-const MOST_STAGES: usize = 3;
-const MOST_NUMBERS: usize = 1024;
-const RISING: u8 = 1;
 
-// Its refusal numbers.
+// So many stages may stand over a code: depth 4, the code counting 1.
+const MOST_STAGES: usize = 3;
+
+// A list's numbers.
+const MOST_NUMBERS: usize = 1024;
+
+// Refused: a malformed plan.
 const MALFORMED: u8 = 3;
+
+// Refused: a plan not passed for its kind.
 const UNFIT: u8 = 4;
-const BAD_ORDER: u8 = 11;
+
+// Refused: a kind above 1, or a count above 1,024.
+const BAD_ORDERS: u8 = 11;
 
 // Whether every byte from an offset on is 0.
 fn blank_from(plan: &[u8], at: Offset) -> bool
@@ -41,7 +51,7 @@ fn blank_from(plan: &[u8], at: Offset) -> bool
     true
 }
 
-// Whether a plan is 15 bytes long, good to its end and blank after it.
+// Whether a plan has its length, is good to its end and blank after it.
 pub fn well_formed(plan: &[u8]) -> bool
     ensures { λ r. ⌜ r ≡ wellFormed (now (plan .entry)) ⌝ }
 {
@@ -56,38 +66,49 @@ pub fn well_formed(plan: &[u8]) -> bool
     false
 }
 
-// A plan judged for a kind: malformed, then not passed.
+// The judge's refusals in their order; whether the kind is known comes first.
+fn judge_when(known: bool, kind: u8, plan: &[u8]) -> Judged
+    ensures { λ r. ⌜ judgedSays r ≡ need known badOrders (judgePlan kind (now (plan .entry))) ⌝ }
+{
+    let formed = well_formed(plan);
+    let passed = passes_plan(plan, Offset { byte: 0 }, MOST_STAGES, kind);
+    if !known {
+        return Judged::Refused(BAD_ORDERS);
+    }
+    if !formed {
+        return Judged::Refused(MALFORMED);
+    }
+    if !passed {
+        return Judged::Refused(UNFIT);
+    }
+    Judged::Passed
+}
+
+// A plan judged for a kind that the caller knows.
 pub fn judge_plan(kind: u8, plan: &[u8]) -> Judged
     ensures { λ r. ⌜ judgedSays r ≡ judgePlan kind (now (plan .entry)) ⌝ }
 {
-    if well_formed(plan) {
-        if passes_plan(plan, Offset { byte: 0 }, MOST_STAGES, kind) {
-            return Judged::Passed;
-        }
-        return Judged::Refused(UNFIT);
-    }
-    Judged::Refused(MALFORMED)
+    judge_when(true, kind, plan)
 }
 
 // The judge asked alone: a kind above 1 is refused first.
 pub fn judge(kind: u8, plan: &[u8]) -> Judged
     ensures { λ r. ⌜ judgedSays r ≡ judgeOf kind (now (plan .entry)) ⌝ }
 {
-    if RISING < kind {
-        return Judged::Refused(BAD_ORDER);
-    }
-    judge_plan(kind, plan)
+    let known = kind <= RISING;
+    judge_when(known, kind, plan)
 }
 
-// The worst size asked alone: malformed plans are refused, then n above 1,024.
+// The worst size asked alone: a malformed plan is refused, then n above 1,024.
 pub fn worst_size(plan: &[u8], n: usize) -> Sized
     ensures { λ r. ⌜ sizedSays r ≡ worstSize (now (plan .entry)) n ⌝ }
 {
-    if well_formed(plan) {
-        if MOST_NUMBERS < n {
-            return Sized::Refused(BAD_ORDER);
-        }
-        return Sized::Bytes(worst_plan(plan, Offset { byte: 0 }, MOST_STAGES, n));
+    let sound = well_formed(plan);
+    if !sound {
+        return Sized::Refused(MALFORMED);
     }
-    Sized::Refused(MALFORMED)
+    if MOST_NUMBERS < n {
+        return Sized::Refused(BAD_ORDERS);
+    }
+    Sized::Bytes(worst_plan(plan, Offset { byte: 0 }, MOST_STAGES, n))
 }

@@ -39,7 +39,8 @@ pub fn stage_at(plan: &[u8], at: Offset, stages: usize) -> Stage
     if stages == 0 {
         return Stage::Bad;
     }
-    let next = Offset { byte: here + 1 };
+    let after = here + 1;
+    let next = Offset { byte: after };
     let less = stages - 1;
     match b {
         16 => Stage::Reference(next, less),

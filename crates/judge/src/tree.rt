@@ -5,9 +5,15 @@ use crate::stage::stage_at;
 use meaning::Offset;
 ghost use mathlib.Core.Path.{_≡_};
 ghost use Prim.Native.Nat.{_≤_};
-ghost use Rattle.meaning.specs.Codes.{Code, codeOf, worstGroups};
+ghost use Rattle.meaning.specs.Codes.{codeOf, worstGroups};
 ghost use Rattle.meaning.specs.Limits.{mostNumbers, mostStages};
 ghost use Rattle.meaning.specs.Plan.{planAt, good, passes, worstPlan};
+
+// Kind 0: any list.
+pub const ANY: u8 = 0;
+
+// Kind 1: no number below the one before.
+pub const RISING: u8 = 1;
 
 // Whether it is well formed up to its end.
 pub fn good_plan(plan: &[u8], at: Offset, stages: usize) -> bool
@@ -38,8 +44,8 @@ pub fn passes_plan(plan: &[u8], at: Offset, stages: usize, kind: u8) -> bool
         Stage::Code(_) => true,
         Stage::Reference(next, less) => passes_plan(plan, next, less, kind),
         Stage::Differences(next, less) => {
-            if kind == 1 {
-                passes_plan(plan, next, less, 0)
+            if kind == RISING {
+                passes_plan(plan, next, less, ANY)
             } else {
                 false
             }
@@ -47,7 +53,7 @@ pub fn passes_plan(plan: &[u8], at: Offset, stages: usize, kind: u8) -> bool
         Stage::Runs(next, less) => {
             if passes_plan(plan, next, less, kind) {
                 let second = plan_end(plan, next, less);
-                passes_plan(plan, second, less, 0)
+                passes_plan(plan, second, less, ANY)
             } else {
                 false
             }

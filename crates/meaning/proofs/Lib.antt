@@ -6,4 +6,6 @@ pub mod Stores
 pub mod Units
 pub mod Loops
 pub mod Lawful
+pub mod Computed
 pub mod Examples
+pub mod Decisions

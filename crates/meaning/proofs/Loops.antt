@@ -101,24 +101,33 @@ module _ {P : Type 0} (unit : ℕ → P → Answer (P × List ℕ)) (joins : Lis
             kept = so .kept;
           }
 
--- ---- a lookup
-module _ {P : Type 0} (unit : ℕ → P → Answer (P × List ℕ)) (n place : ℕ) (p₀ : P) where
-  -- `left` places are still to pass, and the next unit is at p
-  pub record LookSo (left : ℕ) (p : P) : Type 0 where
-    pub passed : left ≤ place
-    pub rest : lookUnits unit n place p₀ ≡ lookUnits unit (n - (place - left)) left p
+-- ---- a lookup: a walk over the units, for all places at once
+module _ {P : Type 0} (unit : ℕ → P → Answer (P × List ℕ)) (n : ℕ) (p₀ : P) where
+  -- i numbers have been passed, and the next unit is at p
+  pub record Walked (i : ℕ) (p : P) : Type 0 where
+    pub most : i ≤ n
+    pub rest : (place : ℕ) → i ≤ place → place < n → lookUnits unit n place p₀ ≡ lookUnits unit (n - i) (place - i) p
 
-  pub look-start : LookSo place p₀
-  look-start = let e : n - (place - place) ≡ n = omega arith in record { passed = omega arith; rest = rw e }
+  pub walk-start : Walked 0 p₀
+  walk-start = record { most = omega arith; rest = λ place h k. rw (sub-zero n, sub-zero place) }
 
-  module _ (good : Good unit) (inside : place < n) (left : ℕ) (p : P) (so : LookSo left p) where
-    pub look-turn : (u : P × List ℕ) → unit (n - (place - left)) p ≡ given u → length (u .1) ≤ left → LookSo (left - length (u .1)) (u .0)
-    look-turn u e h =
-        let m : n - (place - left) - length (u .1) ≡ n - (place - (left - length (u .1))) = omega (arith, so .passed) in
-        record { passed = omega (arith, so .passed); rest = so .rest ∙ rw (look-next unit good (n - (place - left)) left p u (omega (arith, so .passed)) e h, m) }
+  module _ (good : Good unit) (i : ℕ) (p : P) (so : Walked i p) where
+    -- the next unit is passed
+    pub walk-turn : (u : P × List ℕ) → i < n → unit (n - i) p ≡ given u → Walked (i + length (u .1)) (u .0)
+    walk-turn u h e =
+        record {
+          most = omega (arith, good .few (n - i) p u (omega arith) e);
+          rest = λ place a b.
+              let m : n - i - length (u .1) ≡ n - (i + length (u .1)) = omega arith in
+              let q : place - i - length (u .1) ≡ place - (i + length (u .1)) = omega arith in
+              so .rest place (omega arith) b ∙ look-next unit good (n - i) (place - i) p u (omega arith) e (omega arith) ∙ rw (m, q);
+        }
 
-    pub look-end : (u : P × List ℕ) → unit (n - (place - left)) p ≡ given u → left < length (u .1) → lookUnits unit n place p₀ ≡ given (getD (u .1) left 0)
-    look-end u e h = so .rest ∙ look-here unit good (n - (place - left)) left p u (omega (arith, so .passed)) e h
+    -- its numbers are those at the next places
+    pub walk-here : (u : P × List ℕ) → unit (n - i) p ≡ given u → (place : ℕ) → i ≤ place → place < i + length (u .1) → place < n
+        → lookUnits unit n place p₀ ≡ given (getD (u .1) (place - i) 0)
+    walk-here u e place a b c = so .rest place a c ∙ look-here unit good (n - i) (place - i) p u (omega arith) e (omega arith)
 
-    pub look-refuse : (z : ℕ) → unit (n - (place - left)) p ≡ refused z → lookUnits unit n place p₀ ≡ refused z
-    look-refuse z e = so .rest ∙ look-refused unit good (n - (place - left)) left p z (omega (arith, so .passed)) e
+    -- its refusal is that of every place from here on
+    pub walk-refuse : (z : ℕ) → unit (n - i) p ≡ refused z → (place : ℕ) → i ≤ place → place < n → lookUnits unit n place p₀ ≡ refused z
+    walk-refuse z e place a c = so .rest place a c ∙ look-refused unit good (n - i) (place - i) p z (omega arith) e

@@ -1,5 +1,5 @@
 -- VByte is lawful: what it writes reads back, what it reads is what would be written, and its size is as told. Assumes nothing.
-use Prim.Native.Nat.{ℕ, suc, _+_, _-_, _*_, _≤_, _<_}
+use Prim.Native.Nat.{ℕ, suc, _+_, _-_, _*_, _≤_}
 use mathlib.Core.Path.{_≡_, refl, sym, ap, _∙_, subst}
 use mathlib.Core.Bool.{true}
 use mathlib.Core.List.{List, [], _∷_, _++_}
@@ -8,7 +8,7 @@ use lib.Dec.{eqb}
 use lib.ListN.{length, drop, length-append, length-drop, drop-of-length-le}
 use lib.Seq.{drop-append-seam, drop-drop}
 use borrow.Author.Tests.{eq-eqb, eqb-true}
-use Rattle.meaning.specs.Answer.{Answer, given, bind}
+use Rattle.meaning.specs.Answer.{given}
 use Rattle.meaning.specs.Codes.{codeVByte, readCode, always, toLast}
 use Rattle.meaning.specs.Limits.{numberLimit}
 use Rattle.meaning.specs.Lists.{joined}
@@ -20,7 +20,7 @@ use Rattle.meaning.proofs.Answers.{bind-given}
 use Rattle.meaning.proofs.Bounds.{below-nil, below-cons, below-drop, below-append}
 use Rattle.meaning.proofs.Lawful.{Lawful, Read}
 use Rattle.meaning.proofs.Units.{Good, Whole, read-many, read-written, read-holds}
-use Rattle.vbyte.proofs.Number.{Back, number-vbyte, number-back, vbyte-small, vbyte-most}
+use Rattle.vbyte.proofs.Sevens.{number-vbyte, number-back, vbyte-small, vbyte-most}
 
 -- ---- the unit: one number, which is the body's at that offset
 record One (body : List ℕ) (at : ℕ) (u : Position × List ℕ) : Type 0 where

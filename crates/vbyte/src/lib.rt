@@ -1,1 +1,210 @@
-// To come.
+// Code 1, VByte: 7 bits a byte, lowest first, top bit 1 when more follows.
+use leaves::put;
+use leaves::wide;
+use meaning::Bit;
+use meaning::Offset;
+use meaning::Place;
+use meaning::Position;
+use meaning::Reading;
+use meaning::Unit;
+use meaning::UnitRead;
+ghost use mathlib.Core.Bool.{not};
+ghost use mathlib.Core.Path.{_≡_};
+ghost use Prim.Native.Nat.{_+_, _^_, _≤_, _<_};
+ghost use lib.Dec.{eqb};
+ghost use lib.ListN.{length};
+ghost use Rattle.meaning.specs.Answer.{given, need};
+ghost use Rattle.meaning.specs.Codes.{codeVByte, readCode};
+ghost use Rattle.meaning.specs.Limits.{mostBytes, fault};
+ghost use Rattle.meaning.specs.Places.{Source, Target, Wrote, Got, UnitIs, part};
+ghost use Rattle.meaning.specs.VByte.{sevens, vbyte};
+ghost use Rattle.vbyte.specs.Numbers.{numberSays, numberAt, laterAt};
+
+// Fault in a body.
+const FAULT: u8 = 9;
+
+// One number read: its value and the offset after it, or the refusal.
+enum Number {
+    Read(u32, usize),
+    Refused(u8),
+}
+
+// Puts a number's third byte and those after it, given its bits above the lowest 14; answers the offset after them.
+fn put_from_third(out: &mut [u8], at: usize, above14: u32) -> usize
+    requires { ⌜ (above14 < 2 ^ 18) × (at + 3 < 2 ^ 63) ⌝ }
+    ensures { λ r. ⌜ Wrote (sevens 2 above14) at (now (out .entry)) (now (out .exit)) (record { byte = r }) ⌝ }
+{
+    if above14 < 128 {
+        put(out, at, (above14 % 256) as u8);
+        return at + 1;
+    }
+    put(out, at, (above14 % 128 + 128) as u8);
+    let above21 = above14 / 128;
+    if above21 < 128 {
+        put(out, at + 1, (above21 % 256) as u8);
+        return at + 2;
+    }
+    put(out, at + 1, (above21 % 128 + 128) as u8);
+    put(out, at + 2, (above21 / 128 % 256) as u8);
+    at + 3
+}
+
+// Puts one number, and answers the offset after it.
+fn put_number(out: &mut [u8], at: usize, x: u32) -> usize
+    requires { ⌜ at + 5 < 2 ^ 63 ⌝ }
+    ensures { λ r. ⌜ Wrote (vbyte x) at (now (out .entry)) (now (out .exit)) (record { byte = r }) ⌝ }
+{
+    if x < 128 {
+        put(out, at, (x % 256) as u8);
+        return at + 1;
+    }
+    put(out, at, (x % 128 + 128) as u8);
+    let above7 = x / 128;
+    if above7 < 128 {
+        put(out, at + 1, (above7 % 256) as u8);
+        return at + 2;
+    }
+    put(out, at + 1, (above7 % 128 + 128) as u8);
+    put_from_third(out, at + 2, above7 / 128)
+}
+
+// Writes n numbers of a list, from a place on, to an output, from an offset on; answers the offset after them.
+pub fn write(list: &[u32], from: Place, n: usize, out: &mut [u8], at: Offset) -> Offset
+    requires { ⌜ Source (now list) (from .number) n (at .byte) ⌝ }
+    ensures { λ r. ⌜ Wrote (codeVByte .write (part (now (list .entry)) (from .number) n)) (at .byte) (now (out .entry)) (now (out .exit)) r ⌝ }
+{
+    let first = from.number;
+    let mut to = at.byte;
+    let mut i: usize = 0;
+    while i < n {
+        to = put_number(out, to, list[first + i]);
+        i += 1;
+    }
+    Offset { byte: to }
+}
+
+// A number x that ends with a byte b, not its first; b is not 0, or fewer bytes would hold x.
+fn last(b: u32, x: u32, next: usize) -> Number
+    ensures { λ r. ⌜ numberSays r ≡ need (not (eqb b 0)) fault (given (x, next)) ⌝ }
+{
+    if b == 0 {
+        return Number::Refused(FAULT);
+    }
+    Number::Read(x, next)
+}
+
+// The number whose first three bytes make `low` and whose fourth stands at an offset.
+fn from_fourth(body: &[u8], at: usize, low: u32) -> Number
+    requires { ⌜ low < 2 ^ 21 ⌝ }
+    ensures { λ r. ⌜ numberSays r ≡ laterAt 1 (2 ^ 21) low (now (body .entry)) at ⌝ }
+{
+    let end = body.len();
+    if end <= at {
+        return Number::Refused(FAULT);
+    }
+    let fourth = wide(body[at]);
+    if fourth < 128 {
+        return last(fourth, low + 2097152 * fourth, at + 1);
+    }
+    let low28 = low + 2097152 * (fourth - 128);
+    if end <= at + 1 {
+        return Number::Refused(FAULT);
+    }
+    let fifth = wide(body[at + 1]);
+    if 15 < fifth {
+        return Number::Refused(FAULT);
+    }
+    last(fifth, low28 + 268435456 * fifth, at + 2)
+}
+
+// The number whose first byte makes `low` and whose second stands at an offset.
+fn from_second(body: &[u8], at: usize, low: u32) -> Number
+    requires { ⌜ low < 2 ^ 7 ⌝ }
+    ensures { λ r. ⌜ numberSays r ≡ laterAt 3 (2 ^ 7) low (now (body .entry)) at ⌝ }
+{
+    let end = body.len();
+    if end <= at {
+        return Number::Refused(FAULT);
+    }
+    let second = wide(body[at]);
+    if second < 128 {
+        return last(second, low + 128 * second, at + 1);
+    }
+    let low14 = low + 128 * (second - 128);
+    if end <= at + 1 {
+        return Number::Refused(FAULT);
+    }
+    let third = wide(body[at + 1]);
+    if third < 128 {
+        return last(third, low14 + 16384 * third, at + 2);
+    }
+    from_fourth(body, at + 2, low14 + 16384 * (third - 128))
+}
+
+// The number at an offset; most take one byte.
+fn number_at(body: &[u8], at: usize) -> Number
+    ensures { λ r. ⌜ numberSays r ≡ numberAt (now (body .entry)) at ⌝ }
+{
+    if body.len() <= at {
+        return Number::Refused(FAULT);
+    }
+    let next = at + 1;
+    let first = wide(body[at]);
+    if first < 128 {
+        return Number::Read(first, next);
+    }
+    from_second(body, next, first - 128)
+}
+
+// Reads the unit at a position: one number.
+pub fn unit(body: &[u8], left: usize, at: Position) -> UnitRead
+    requires { ⌜ length (now body) ≤ mostBytes ⌝ }
+    ensures { λ r. ⌜ UnitIs (codeVByte .unit (now (body .entry)) left at) r ⌝ }
+{
+    let head = at.head;
+    let mut numbers = [0u32; 8];
+    let r = number_at(body, head.byte);
+    match r {
+        Number::Read(x, next) => {
+            numbers[0] = x;
+            let after = Position {
+                head: Offset { byte: next },
+                tail: Offset { byte: 0 },
+                bit: Bit { index: 0 },
+            };
+            UnitRead {
+                unit: Unit::Next(after, 1),
+                numbers,
+            }
+        }
+        Number::Refused(e) => UnitRead {
+            unit: Unit::Refused(e),
+            numbers,
+        },
+    }
+}
+
+// Reads a whole body of n numbers into work, from a place on.
+pub fn read(body: &[u8], n: usize, work: &mut [u32], from: Place) -> Reading
+    requires { ⌜ Target (now body) (now work) (from .number) n ⌝ }
+    ensures { λ r. ⌜ Got (readCode codeVByte (now (body .entry)) n) (from .number) (now (work .entry)) (now (work .exit)) r ⌝ }
+{
+    let first = from.number;
+    let mut i: usize = 0;
+    let mut at: usize = 0;
+    while i < n {
+        let r = number_at(body, at);
+        match r {
+            Number::Read(x, next) => {
+                work[first + i] = x;
+                i += 1;
+                at = next;
+            }
+            Number::Refused(e) => return Reading::Refused(e),
+        }
+    }
+    if at == body.len() {
+        return Reading::Whole(n);
+    }
+    Reading::Refused(FAULT)
+}

@@ -90,9 +90,9 @@ returns-3 c =
     let f = fewest-3 (a .out .now) (a .at) (a .x) (omega arith) (omega arith) in (
       f .0,
       c .before .before .before .put3 .ensures
-      ∙ ap (λ (l : List ℕ). set l (a .at + 2) (a .x / 65536 % 256))
-      (c .before .before .before .before .before .before .before .before .put2 .ensures ∙ ap (λ (l : List ℕ). set l (a .at + 1) (a .x / 256 % 256)) (c .before .before .before .before .before .before .before .before .before .before .before .before .before .put .ensures))
-      ∙ f .1,
+          ∙ ap (λ (l : List ℕ). set l (a .at + 2) (a .x / 65536 % 256))
+          (c .before .before .before .before .before .before .before .before .put2 .ensures ∙ ap (λ (l : List ℕ). set l (a .at + 1) (a .x / 256 % 256)) (c .before .before .before .before .before .before .before .before .before .before .before .before .before .put .ensures))
+          ∙ f .1,
     )
 
 -- src/lib.rt:67:14
@@ -122,11 +122,11 @@ returns-4 c =
     let f = fewest-4 (a .out .now) (a .at) (a .x) (omega arith) in (
       f .0,
       c .before .before .put4 .ensures
-      ∙ ap (λ (l : List ℕ). set l (a .at + 3) (a .x / 16777216 % 256))
-      (c .before .before .before .before .before .before .before .put3 .ensures
-      ∙ ap (λ (l : List ℕ). set l (a .at + 2) (a .x / 65536 % 256))
-      (c .before .before .before .before .before .before .before .before .before .before .before .before .put2 .ensures ∙ ap (λ (l : List ℕ). set l (a .at + 1) (a .x / 256 % 256)) (c .before .before .before .before .before .before .before .before .before .before .before .before .before .before .before .before .before .put .ensures)))
-      ∙ f .1,
+          ∙ ap (λ (l : List ℕ). set l (a .at + 3) (a .x / 16777216 % 256))
+          (c .before .before .before .before .before .before .before .put3 .ensures
+          ∙ ap (λ (l : List ℕ). set l (a .at + 2) (a .x / 65536 % 256))
+          (c .before .before .before .before .before .before .before .before .before .before .before .before .put2 .ensures ∙ ap (λ (l : List ℕ). set l (a .at + 1) (a .x / 256 % 256)) (c .before .before .before .before .before .before .before .before .before .before .before .before .before .before .before .before .before .put .ensures)))
+          ∙ f .1,
     )
 
 pub put-fewest-spec : {M : Type 1} → statement M

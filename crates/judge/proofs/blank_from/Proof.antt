@@ -1,41 +1,43 @@
+-- `blank_from` has asked the bytes before i, and asks the rest. Assumes nothing.
+use Prim.Native.Nat.{_-_}
+use mathlib.Core.Path.{_≡_, refl}
+use lib.Dec.{eqb}
+use lib.ListN.{length, drop}
+use borrow.Author.Needs.{needs}
+use denote.Ref.{now}
+use Rattle.meaning.specs.Lists.{all}
+use Rattle.judge.proofs.FrontLaws.{blank-turn, blank-fail, blank-end}
 use Rattle.judge.proofs.blank_from.Statement.{statement}
 use Rattle.judge.proofs.blank_from.Tie as tie
-use Rattle.judge.proofs.blank_from.Reads as reads
-use Rattle.judge.proofs.blank_from.Lts as lts
 
 abbrev Inv-loop : tie.InvT-loop
-Inv-loop plan i₀ i = ?
+Inv-loop plan i₀ i = all (eqb 0) (drop i₀ plan) ≡ all (eqb 0) (drop i plan)
 
 abbrev μ-loop : tie.MeasureT-loop
-μ-loop plan i₀ i = ?
+μ-loop plan i₀ i = length plan - i
 
--- src/lib.rt:35:5
 loop-holds : tie.Need-loop-holds Inv-loop μ-loop
-loop-holds c = ?
+loop-holds c = refl
 
--- src/lib.rt:36:12
 shared-slice-read-if1 : tie.Need-shared-slice-read-if1 Inv-loop μ-loop
-shared-slice-read-if1 c = ?
+shared-slice-read-if1 c = search needs
 
--- src/lib.rt:37:13
 returns : tie.Need-returns Inv-loop μ-loop
-returns c = ?
+returns c =
+    blank-fail (now (c .before .before .before .before .args .plan)) (c .before .before .before .loop .i) _ (c .before .before .before .loop .inv) (c .before .before .loop-test .taken) (c .if1 .taken)
 
--- src/lib.rt:39:9
 add-i : tie.Need-add-i Inv-loop μ-loop
-add-i c = ?
+add-i c = search needs
 
--- src/lib.rt:35:5
 loop-less : tie.Need-loop-less Inv-loop μ-loop
-loop-less c = ?
+loop-less c = search needs
 
--- src/lib.rt:35:5
 loop-again : tie.Need-loop-again Inv-loop μ-loop
-loop-again c = ?
+loop-again c =
+    blank-turn (now (c .before .before .before .before .args .plan)) (c .before .before .before .loop .i) _ (c .before .before .before .loop .inv) (c .before .before .loop-test .taken) (c .if1 .left)
 
--- src/lib.rt:31:1
 returns-2 : tie.Need-returns-2 Inv-loop μ-loop
-returns-2 c = ?
+returns-2 c = blank-end (now (c .before .before .args .plan)) (c .before .loop .i) _ (c .before .loop .inv) (c .loop-test .left)
 
 pub blank-from-spec : {M : Type 1} → statement M
 blank-from-spec =

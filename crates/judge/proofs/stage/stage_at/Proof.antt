@@ -1,53 +1,43 @@
+-- `stage_at` goes by the definition's tests in their order; past the end stands a 0. Assumes nothing.
 use borrow.Author.Needs.{needs}
+use Rattle.judge.proofs.StageLaws.{stage-end, stage-code, stage-none, stage-16, stage-17, stage-18, stage-else}
 use Rattle.judge.proofs.stage.stage_at.Statement.{statement}
 use Rattle.judge.proofs.stage.stage_at.Tie as tie
-use Rattle.judge.proofs.stage.stage_at.Reads as reads
-use Rattle.judge.proofs.stage.stage_at.Lts as lts
-use Rattle.judge.proofs.stage.is_code.Reads as is-code-reads
 
--- src/stage.rt:33:9
 returns : tie.Need-returns
-returns c = ?
+returns c = stage-end _ _ _ (c .if1 .taken)
 
--- src/stage.rt:35:13
 shared-slice-read-b : tie.Need-shared-slice-read-b
 shared-slice-read-b c = search needs
 
--- src/stage.rt:36:8
 is-code-requires : tie.Need-is-code-requires
 is-code-requires c κs = search needs
 
--- src/stage.rt:37:9
 returns-2 : tie.Need-returns-2
-returns-2 c = ?
+returns-2 c = stage-code _ _ _ _ (c .before .is-code .ensures) (c .if2 .taken)
 
--- src/stage.rt:40:9
 returns-3 : tie.Need-returns-3
-returns-3 c = ?
+returns-3 c = stage-none _ _ _ _ (c .before .before .is-code .ensures) (c .before .if2 .left) (c .if3 .taken)
 
--- src/stage.rt:42:31
-add-t8 : tie.Need-add-t8
-add-t8 c = search needs
+add-after : tie.Need-add-after
+add-after c = search needs
 
--- src/stage.rt:43:16
 sub-less : tie.Need-sub-less
 sub-less c = search needs
 
--- src/stage.rt:28:1
 returns-4 : tie.Need-returns-4
-returns-4 c = ?
+returns-4 c = stage-16 _ _ _ _ (c .before .before .before .is-code .ensures) (c .before .before .if2 .left) (c .before .if3 .left) (c .match .keys1)
 
--- src/stage.rt:28:1
 returns-5 : tie.Need-returns-5
-returns-5 c = ?
+returns-5 c = stage-17 _ _ _ _ (c .before .before .before .is-code .ensures) (c .before .before .if2 .left) (c .before .if3 .left) (c .match .keys2)
 
--- src/stage.rt:28:1
 returns-6 : tie.Need-returns-6
-returns-6 c = ?
+returns-6 c = stage-18 _ _ _ _ (c .before .before .before .is-code .ensures) (c .before .before .if2 .left) (c .before .if3 .left) (c .match .keys3)
 
--- src/stage.rt:28:1
 returns-7 : tie.Need-returns-7
-returns-7 c = ?
+returns-7 c =
+    let r = c .match .rest in
+    stage-else _ _ _ _ (c .before .before .before .is-code .ensures) (c .before .before .if2 .left) (c .before .if3 .left) (r .0 .0 .1) (r .0 .1) (r .1)
 
 pub stage-at-spec : {M : Type 1} → statement M
 stage-at-spec =
@@ -58,7 +48,7 @@ stage-at-spec =
     is-code-requires
     returns-2
     returns-3
-    add-t8
+    add-after
     sub-less
     returns-4
     returns-5

@@ -1,0 +1,110 @@
+// Does one operation on one sheet so often, for its instructions to be counted from outside:
+//     bench ENGINE OPERATION REPEATS PLACE WIDTH PLAN..
+// ENGINE: library, plain or streamvbyte; OPERATION: read, write or lookup; WIDTH: small, mixed or wide; PLAN: its bytes.
+// The sheet has one column of 1,024 numbers, the same for each engine and made before the first repeat.
+
+#include "pelluvion.h"
+#include "plain.h"
+#include <stdio.h>
+#include <stdlib.h>
+#include <string.h>
+#include <streamvbyte.h>
+
+enum { N = 1024, REFERENCE = 16, DIFFERENCES, RUNS };
+
+static uint32_t list[N], out[N], work[8 * N];
+static uint8_t sheet[PELLUVION_SHEET], again[PELLUVION_SHEET], plan[PELLUVION_PLAN], kind;
+static const uint32_t n = N;
+static size_t sheet_len, place;
+
+static uint64_t draw(void)      // splitmix64
+{
+    static uint64_t state;
+    uint64_t z = state += 0x9e3779b97f4a7c15;
+    z = (z ^ z >> 30) * 0xbf58476d1ce4e5b9;
+    z = (z ^ z >> 27) * 0x94d049bb133111eb;
+    return z ^ z >> 31;
+}
+
+// small: below 100; mixed: of 1 to `bits` bits, each length as often; wide: uniform in `bits` bits.
+static uint32_t number(char width, unsigned bits)
+{
+    if (width == 's')
+        return draw() % 100;
+    if (width == 'm')
+        bits = 1 + draw() % bits;
+    uint64_t top = (uint64_t)1 << bits, x = draw() % top;
+    return width == 'm' ? x | top >> 1 : x;
+}
+
+// The list that the plan is for: rising for differences, runs of 1 to 16 for runs, far from 0 for reference.
+static void make_list(char width)
+{
+    for (uint32_t i = 0; i < N; i++)
+        switch (plan[0]) {
+        case REFERENCE: list[i] = 1000000000 + number(width, 31); break;
+        case DIFFERENCES: list[i] = (i > 0 ? list[i - 1] : 0) + number(width, 21); break;
+        case RUNS:
+            list[i] = number(width, 32);
+            for (uint32_t more = draw() % 16; more > 0 && i + 1 < N; more--, i++)
+                list[i + 1] = list[i];
+            break;
+        default: list[i] = number(width, 32);
+        }
+}
+
+static int library_read(void)
+{
+    size_t count;
+    return pelluvion_read(sheet, sheet_len, 0, work, 8 * N, out, N, &count);
+}
+
+static int plain_c_read(void)
+{
+    size_t count;
+    return plain_read(sheet, sheet_len, 0, work, 8 * N, out, N, &count);
+}
+
+static int library_write(void)
+{
+    size_t size;
+    return pelluvion_write(&kind, 1, plan, sizeof plan, &n, 1, list, N, work, 8 * N, again, sizeof again, &size);
+}
+
+static int plain_c_write(void)
+{
+    size_t size;
+    return plain_write(&kind, 1, plan, sizeof plan, &n, 1, list, N, work, 8 * N, again, sizeof again, &size);
+}
+
+static int library_lookup(void) { return pelluvion_lookup(sheet, sheet_len, 0, place, out); }
+static int plain_c_lookup(void) { return plain_lookup(sheet, sheet_len, 0, place, out); }
+static int stream_read(void) { return streamvbyte_decode(sheet + 26, out, N) != sheet_len - 26; }
+static int stream_write(void) { return streamvbyte_encode(list, N, again) != sheet_len - 26; }
+
+static const struct { const char *engine, *operation; int (*call)(void); } calls[] = {
+    {"library", "read", library_read}, {"library", "write", library_write}, {"library", "lookup", library_lookup},
+    {"plain", "read", plain_c_read}, {"plain", "write", plain_c_write}, {"plain", "lookup", plain_c_lookup},
+    {"streamvbyte", "read", stream_read}, {"streamvbyte", "write", stream_write},
+};
+
+int main(int argc, char **argv)
+{
+    for (int i = 6; i < argc && i < 6 + PELLUVION_PLAN; i++)
+        plan[i - 6] = atoi(argv[i]);
+    if (argc < 7)
+        return 2;
+    make_list(argv[5][0]);
+    kind = plan[0] == DIFFERENCES;
+    place = atoi(argv[4]);
+    if (plain_write(&kind, 1, plan, sizeof plan, &n, 1, list, N, work, 8 * N, sheet, sizeof sheet, &sheet_len) != 0)
+        return 2;
+    for (size_t i = 0; i < sizeof calls / sizeof *calls; i++)
+        if (strcmp(calls[i].engine, argv[1]) == 0 && strcmp(calls[i].operation, argv[2]) == 0) {
+            for (int repeats = atoi(argv[3]); repeats > 0; repeats--)
+                if (calls[i].call() != 0)
+                    return 1;
+            return 0;
+        }
+    return 2;
+}

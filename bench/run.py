@@ -1,0 +1,114 @@
+"""What the library costs: x86-64 instructions, counted under qemu on every machine, beside plain C with the same strict
+tests (plain.c) and, for code 4, Debian's libstreamvbyte, which tests nothing.  Prints Markdown.
+
+    python3 bench/run.py [ARCHIVE]"""
+
+import itertools
+import os
+import re
+import subprocess
+import sys
+from multiprocessing.pool import ThreadPool
+sys.dont_write_bytecode = True
+HERE = os.path.dirname(os.path.abspath(__file__))
+sys.path.insert(0, os.path.join(os.path.dirname(HERE), "tests", "outside"))
+import machine
+
+NUMBERS, REPEATS, PLACES = 1024, 4, (255, 511, 1023)
+PLANS = ("1", "2", "3", "4", "5", "6", "17 1", "17 4", "18 1 1", "16 4")
+WIDTHS = ("small", "mixed", "wide")
+NAMES = {"1": "VByte", "2": "group of four", "3": "G8IU", "4": "Stream VByte", "5": "gamma", "6": "delta",
+         "17 1": "differences, VByte", "17 4": "differences, Stream VByte", "18 1 1": "runs, VByte twice",
+         "16 4": "reference, Stream VByte"}
+ENGINES = ("library", "plain")
+
+
+def count(command):
+    """The instructions of a program."""
+    done = subprocess.run(command, stderr=subprocess.PIPE, text=True)
+    found = re.search(r"instructions (\d+)", done.stderr)
+    if done.returncode != 0 or not found:
+        sys.exit("%s: %d %s" % (" ".join(command), done.returncode, done.stderr))
+    return int(found.group(1))
+
+
+def plugin(program):
+    """The counter, of the interface version that this qemu takes."""
+    for version in (1, 2, 3, 4):
+        library = os.path.join(machine.MADE, "libcount.so")
+        machine.run("gcc", "-O2", "-shared", "-fPIC", "-DVERSION=%d" % version, os.path.join(HERE, "count.c"), "-o", library)
+        command = ["qemu-x86_64", "-plugin", library]
+        if b"instructions" in subprocess.run(command + [program], stderr=subprocess.PIPE).stderr:
+            return command
+    sys.exit("qemu takes no plugin of versions 1 to 4")
+
+
+def measure(archive):
+    """{(engine, operation, place, width, plan): instructions of one call}"""
+    machine.install()
+    sources = [os.path.join(HERE, name) for name in ("bench.c", "plain.c", "plain_codes.c", "plain_plans.c", "plain_write.c")]
+    program = machine.build("bench", *sources, archive, *machine.stream_flags())[-1]
+    command = plugin(program) + [program]
+    cases = [(engine, operation, place, width, plan)
+             for engine, width, plan in itertools.product(ENGINES, WIDTHS, PLANS)
+             for operation, place in [("read", 0), ("write", 0)] + [("lookup", place) for place in PLACES]]
+    cases += [("streamvbyte", operation, 0, width, "4") for operation in ("read", "write") for width in WIDTHS]
+
+    def one(case):
+        engine, operation, place, width, plan = case
+        often, never = (count(command + [engine, operation, str(repeats), str(place), width] + plan.split())
+                        for repeats in (REPEATS, 0))
+        return (often - never) / REPEATS
+
+    with ThreadPool(2) as pool:
+        return dict(zip(cases, pool.map(one, cases)))
+
+
+def row(*cells):
+    print("| " + " | ".join(cells) + " |")
+
+
+def table(head, rows):
+    row(*head)
+    row(*("---" if i < 3 else "---:" for i in range(len(head))))
+    for cells in rows:
+        row(*cells)
+    print()
+
+
+def main(archive):
+    cost = measure(archive)
+
+    def per_number(engine, operation, width, plan):
+        found = cost.get((engine, operation, 0, width, plan))
+        return "" if found is None else "%.1f" % (found / NUMBERS)
+
+    def grown(engine, width, plan):
+        found = [cost[engine, "lookup", place, width, plan] for place in PLACES]
+        return ["%.0f" % calls for calls in found] + ["%.1f" % (found[-1] / (PLACES[-1] + 1))]
+
+    def ratio(operation, place, width, plan):
+        library, plain = (cost[engine, operation, place, width, plan] for engine in ENGINES)
+        return "%.2f" % (library / plain)
+
+    columns = list(itertools.product(PLANS, WIDTHS))
+    compiler = subprocess.run([machine.CC[0], "--version"], stdout=subprocess.PIPE, text=True).stdout.split("\n")[0]
+    print("## Instructions a number, of %d\n\nPlain C by %s -O2.\n" % (NUMBERS, compiler))
+    print("Numbers: small are below 100, mixed of 1 to 32 bits with each length as often, wide uniform in 32 bits; with 17 "
+          "these are the steps (up to 21 bits), with 18 the values of runs of 1 to 16, with 16 (up to 31 bits) 1,000,000,000 "
+          "is added.\n")
+    for operation in ("read", "write"):
+        print("### %s\n" % operation.capitalize())
+        table(("plan", "", "numbers", "library", "plain C", "ratio", "libstreamvbyte"),
+              [(plan, NAMES[plan], width, per_number("library", operation, width, plan),
+                per_number("plain", operation, width, plan), ratio(operation, 0, width, plan),
+                per_number("streamvbyte", operation, width, plan)) for plan, width in columns])
+    print("### Lookup: instructions a call at places %d, %d and %d, and a number at the last\n" % PLACES)
+    first, *more = map(str, PLACES)
+    table(("plan", "", "numbers", "library: " + first, *more, "a number", "plain C: " + first, *more, "a number", "ratio"),
+          [(plan, NAMES[plan], width, *grown("library", width, plan), *grown("plain", width, plan),
+            ratio("lookup", PLACES[-1], width, plan)) for plan, width in columns])
+
+
+if __name__ == "__main__":
+    main(os.path.abspath(sys.argv[1]) if len(sys.argv) > 1 else os.path.join(machine.ROOT, "target", "staticlib", "libcapi.a"))

@@ -1,0 +1,55 @@
+-- Sums of the numbers at the first places. Assumes nothing.
+use Prim.Native.Nat.{ℕ, zero, suc, _+_, _-_, _≤_, _<_}
+use mathlib.Core.Path.{_≡_, refl, sym, ap, _∙_}
+use mathlib.Core.List.{List, [], _∷_, _++_}
+use mathlib.Core.Logic.{_⊎_, inl, inr}
+use native.Mathlib.Nat.{add-assoc, add-zero, eq-or-lt-of-le, le-of-suc-le-suc}
+use native.Mathlib.Numerals.{add-one}
+use native.Mathlib.Omega.{arith}
+use lib.Seq.{take-suc, length-take-le, getD-take}
+use Rattle.leaves.proofs.Joined.{sum-append}
+use lib.ListN.{length, getD, take}
+use Rattle.meaning.specs.Answer.{Answer, given, refused, bind}
+use Rattle.meaning.specs.Lists.{sum}
+use Rattle.meaning.specs.Stages.{total}
+
+-- one number more
+pub sum-next : (xs : List ℕ) (i : ℕ) → i < length xs → sum (take (i + 1) xs) ≡ sum (take i xs) + getD xs i 0
+unfolding sum
+sum-next xs i h = rw (add-one, take-suc xs i 0 h, sum-append (take i xs) (getD xs i 0 ∷ [])) (omega arith)
+
+module _ (at : ℕ → Answer ℕ) where
+  -- the first refusal is the sum's
+  pub total-refused : (i k s e : ℕ) → i < k → total at i ≡ given s → at i ≡ refused e → total at k ≡ refused e
+  unfolding total
+  total-refused i zero s e h t r = absurd (omega arith)
+  total-refused i (suc k) s e h t r = go (λ l. total-refused i k s e l t r) (eq-or-lt-of-le (le-of-suc-le-suc h))
+    where
+      go : (i < k → total at k ≡ refused e) → (i ≡ k) ⊎ (i < k) → bind (total at k) (λ s. bind (at k) (λ x. given (s + x))) ≡ refused e
+      go f (inl q) = rw (← q, t, r)
+      go f (inr l) = rw (f l)
+
+  -- the numbers of xs stand at the next places
+  pub total-more : (xs : List ℕ) (i s : ℕ) → total at i ≡ given s → ((j : ℕ) → j < length xs → at (i + j) ≡ given (getD xs j 0))
+      → total at (i + length xs) ≡ given (s + sum xs)
+  unfolding total sum
+  total-more [] i s t h = rw (add-zero i, add-zero s) t
+  total-more (x ∷ xs) i s t h =
+      let first : at i ≡ given x = rw add-zero at (h 0 (omega arith)) in
+      let next : total at (suc i) ≡ given (s + x) = rw (t, first) in
+      let here : i + suc (length xs) ≡ suc i + length xs = omega arith in
+      ap (total at) here
+      ∙ total-more xs (suc i) (s + x) next (λ j l. let e : suc i + j ≡ i + suc j = omega arith in ap at e ∙ h (suc j) (omega arith))
+      ∙ ap (λ (y : ℕ). given y) (add-assoc s x (sum xs))
+
+  pub total-none : total at 0 ≡ given 0
+  unfolding total
+  total-none = refl
+
+  -- the first k numbers of xs stand at the next places
+  pub total-part : (xs : List ℕ) (i s k : ℕ) → k ≤ length xs → total at i ≡ given s → ((j : ℕ) → j < k → at (i + j) ≡ given (getD xs j 0))
+      → total at (i + k) ≡ given (s + sum (take k xs))
+  total-part xs i s k h t f =
+      let n : length (take k xs) ≡ k = length-take-le k xs h in
+      ap (λ (j : ℕ). total at (i + j)) (sym n)
+      ∙ total-more (take k xs) i s t (λ j l. f j (omega arith) ∙ ap (λ (x : ℕ). given x) (sym (getD-take k xs j 0 (omega arith))))

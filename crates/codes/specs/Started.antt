@@ -1,0 +1,20 @@
+-- What the answers of this crate say.
+use Prim.Native.Nat.{ℕ}
+use Rattle.meaning.specs.Answer.{Answer, given, refused}
+use Rattle.meaning.specs.declared.Position.{Position}
+use Rattle.codes.specs.declared.Started.{Started}
+use Rattle.codes.specs.declared.Started.the-variants as started
+use Rattle.codes.specs.declared.Total.{Total}
+use Rattle.codes.specs.declared.Total.the-variants as total
+
+abbrev pub startedSays : Started → Answer Position
+startedSays (started.At p) = given p
+startedSays (started.Refused e) = refused e
+
+abbrev pub startRefusal : Started → ℕ
+startRefusal (started.At p) = 0
+startRefusal (started.Refused e) = e
+
+abbrev pub totalSays : Total → Answer ℕ
+totalSays (total.Sum x) = given x
+totalSays (total.Refused e) = refused e

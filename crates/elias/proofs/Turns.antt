@@ -1,0 +1,60 @@
+-- What the loop of a reading knows, for both forms. Assumes nothing.
+use Prim.Native.Nat.{ℕ, _+_, _-_, _*_, _≤_, _<_}
+use mathlib.Core.Path.{_≡_, refl, sym, ap, _∙_, subst}
+use mathlib.Core.Bool.{true, false}
+use mathlib.Core.List.{List, [], _∷_}
+use native.Mathlib.Omega.{arith}
+use lib.ListN.{length, drop, set}
+use lib.Seq.{sets}
+use Rattle.meaning.specs.Answer.{given, refused, need}
+use Rattle.meaning.specs.Bits.{bitsOf}
+use Rattle.meaning.specs.Codes.{readCode, always}
+use Rattle.meaning.specs.Elias.{unitElias, doneElias}
+use Rattle.meaning.specs.Limits.{fault}
+use Rattle.meaning.specs.Places.{Got}
+use Rattle.meaning.specs.Positions.{atBit}
+use Rattle.meaning.specs.declared.Reading.the-variants.{Whole, Refused}
+use Rattle.meaning.proofs.Loops.{ReadSo, read-start, read-turn, read-refuse, read-end, got-refused, got-whole}
+use Rattle.elias.specs.Says.{wordOf, codeWith}
+use Rattle.elias.specs.declared.word.Form.{Form}
+use Rattle.elias.proofs.Forms.{good-of, read-of, found, unit-given, unit-refused}
+
+-- i numbers have been read, and the next codeword is at bit p
+pub record Reads (f : Form) (body : List ℕ) (n : ℕ) (w₀ : List ℕ) (from : ℕ) (w : List ℕ) (i p : ℕ) : Type 0 where
+  pub before : List ℕ
+  pub so : ReadSo (unitElias (wordOf f) body) always (doneElias body) n (atBit 0) w₀ from w i before (atBit p)
+  pub inside : p ≤ 8 * length body
+
+module _ (f : Form) (body : List ℕ) (n : ℕ) (w₀ : List ℕ) (from : ℕ) where
+  pub start : Reads f body n w₀ from w₀ 0 0
+  start = record { before = []; so = read-start (unitElias (wordOf f) body) always (doneElias body) n (atBit 0) w₀ from; inside = omega arith }
+
+  module _ (w : List ℕ) (i p : ℕ) (r : Reads f body n w₀ from w i p) where
+    pub turn : (v k : ℕ) → from + n ≤ length w₀ → i < n → wordOf f (drop p (bitsOf body)) ≡ given (v, k) → Reads f body n w₀ from (set w (from + i) (v - 1)) (i + 1) (p + k)
+    turn v k fits h e =
+        record {
+          before = (v - 1) ∷ [];
+          so = read-turn (unitElias (wordOf f) body) always (doneElias body) n (atBit 0) w₀ from (good-of f body) w i (r .before) (atBit p) (r .so)
+              (atBit (p + k), (v - 1) ∷ []) (set w (from + i) (v - 1)) fits h (unit-given f body (n - i) (atBit p) v k e) refl refl;
+          inside = found f body p v k e .within;
+        }
+
+    refusal : (z : ℕ) → readCode (codeWith f) body n ≡ refused z → Got (readCode (codeWith f) body n) from w₀ w (Refused z)
+    refusal z e =
+        got-refused (unitElias (wordOf f) body) always (doneElias body) n (atBit 0) w₀ from (good-of f body) w i (r .before) (atBit p) (r .so)
+        (readCode (codeWith f) body n) (read-of f body n) z e
+
+    -- a codeword's refusal is handed on
+    pub refuse : (z : ℕ) → i < n → wordOf f (drop p (bitsOf body)) ≡ refused z → Got (readCode (codeWith f) body n) from w₀ w (Refused z)
+    refuse z h e =
+        refusal z (read-of f body n ∙ read-refuse (unitElias (wordOf f) body) always (doneElias body) n (atBit 0) w₀ from (good-of f body) w i (r .before) (atBit p) (r .so)
+        z h (unit-refused f body (n - i) (atBit p) z e))
+
+    pub ends : n ≤ i → doneElias body (atBit p) ≡ true → Got (readCode (codeWith f) body n) from w₀ w (Whole n)
+    ends h d =
+        got-whole (unitElias (wordOf f) body) always (doneElias body) n (atBit 0) w₀ from (good-of f body) w i (r .before) (atBit p) (r .so)
+        (readCode (codeWith f) body n) (read-of f body n) h d
+
+    pub left-over : n ≤ i → doneElias body (atBit p) ≡ false → Got (readCode (codeWith f) body n) from w₀ w (Refused fault)
+    left-over h d =
+        refusal fault (read-of f body n ∙ read-end (unitElias (wordOf f) body) always (doneElias body) n (atBit 0) w₀ from (good-of f body) w i (r .before) (atBit p) (r .so) h ∙ rw d)

@@ -1,0 +1,58 @@
+-- `word_at` meets its contract. Assumes nothing.
+use mathlib.Core.Path.{sym, ap, _∙_}
+use native.Mathlib.Omega.{arith}
+use lib.ListN.{drop, length-drop}
+use Rattle.meaning.specs.Bits.{bitsOf}
+use Rattle.meaning.specs.Elias.{gammaWord}
+use Rattle.elias.specs.Says.{wordOf}
+use Rattle.elias.specs.declared.word.Form.{Form}
+use Rattle.elias.proofs.Pack.{bits-length}
+use Rattle.elias.proofs.Seen.{word-none}
+use borrow.Author.Needs.{needs}
+use Rattle.elias.proofs.word.word_at.Statement.{statement}
+use Rattle.elias.proofs.word.word_at.Tie as tie
+
+mul-if1 : tie.Need-mul-if1
+mul-if1 c = search needs
+
+returns : tie.Need-returns
+returns c =
+    let a = c .before .before .args in
+    let l = bitsOf (a .body .now) in
+    word-none (a .form) (drop (a .p) l) (omega (arith, length-drop (a .p) l, bits-length (a .body .now)))
+
+enum-told : tie.Need-enum-told
+enum-told c = search needs
+
+gamma-in-requires : tie.Need-gamma-in-requires
+gamma-in-requires c κs = search needs
+
+enum-told-2 : tie.Need-enum-told-2
+enum-told-2 c = search needs
+
+delta-at-requires : tie.Need-delta-at-requires
+delta-at-requires c κs = search needs
+
+returns-2 : tie.Need-returns-2
+unfolding gammaWord
+returns-2 c =
+    let a = c .before .before .before .before .before .args in
+    c .gamma-in .ensures ∙ ap (λ (f : Form). wordOf f (drop (a .p) (bitsOf (a .body .now)))) (sym (c .before .enum-told .given .1))
+
+returns-3 : tie.Need-returns-3
+returns-3 c =
+    let a = c .before .before .before .before .before .args in
+    c .delta-at .ensures ∙ ap (λ (f : Form). wordOf f (drop (a .p) (bitsOf (a .body .now)))) (sym (c .before .enum-told2 .given .1))
+
+pub word-at-spec : {M : Type 1} → statement M
+word-at-spec =
+    tie.close
+    (tie.spec
+    mul-if1
+    returns
+    enum-told
+    gamma-in-requires
+    enum-told-2
+    delta-at-requires
+    returns-2
+    returns-3)

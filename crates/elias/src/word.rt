@@ -1,0 +1,110 @@
+// Codewords read from a body.
+use crate::input::peek;
+use crate::input::take_bits;
+use crate::input::top;
+ghost use mathlib.Core.Path.{_≡_};
+ghost use Prim.Native.Nat.{_+_, _-_, _*_, _<_, _≤_};
+ghost use lib.Dec.{leb};
+ghost use lib.ListN.{length, drop};
+ghost use Rattle.meaning.specs.Answer.{Answer, given, need};
+ghost use Rattle.meaning.specs.Bits.{bitsOf};
+ghost use Rattle.meaning.specs.Elias.{gammaIn, deltaWord, doneElias};
+ghost use Rattle.meaning.specs.Limits.{fault, mostBytes};
+ghost use Rattle.meaning.specs.Positions.{atBit};
+ghost use Rattle.elias.specs.Says.{wordSays, wordRefusal, wordOf};
+
+// The code that codewords are of.
+pub enum Form {
+    Gamma,
+    Delta,
+}
+
+// A codeword: the value v and how many bits it takes, or the refusal.
+pub enum Codeword {
+    Value(u64, usize),
+    Refused(u8),
+}
+
+// The number of a codeword's refusal, 0 where it is none.
+pub fn refusal_of(w: Codeword) -> u8
+    ensures { λ r. ⌜ r ≡ wordRefusal w ⌝ }
+{
+    match w {
+        Codeword::Value(_, _) => 0,
+        Codeword::Refused(e) => e,
+    }
+}
+
+// A value is given where it is not too large.
+fn within(v: u64, most: u64, size: usize) -> Codeword
+    ensures { λ r. ⌜ wordSays r ≡ need (leb v most) fault (given (v, size)) ⌝ }
+{
+    if v <= most {
+        return Codeword::Value(v, size);
+    }
+    Codeword::Refused(9)
+}
+
+// The value in gamma at a bit, with at most so many zeros, and not above `most`. In 57 bits seen at once are 28 zeros and what stands behind them.
+fn gamma_in(body: &[u8], p: usize, zeros: usize, most: u64) -> Codeword
+    requires { ⌜ (length (now body) ≤ mostBytes) × (p ≤ 8 * length (now body)) × (zeros ≤ 32) ⌝ }
+    ensures { λ r. ⌜ wordSays r ≡ gammaIn zeros most (drop p (bitsOf (now (body .entry)))) ⌝ }
+{
+    let seen = peek(body, p);
+    let z = u64::leading_zeros(seen) as usize;
+    if zeros < z {
+        return Codeword::Refused(9);
+    }
+    let size = 2 * z + 1;
+    let left = 8 * body.len() - p;
+    if left < size {
+        return Codeword::Refused(9);
+    }
+    if z <= 28 {
+        return within(top(seen, size), most, size);
+    }
+    within(take_bits(body, p + z, z + 1), most, size)
+}
+
+// The value in delta at a bit: its length in gamma, then the rest after its leading one.
+fn delta_at(body: &[u8], p: usize) -> Codeword
+    requires { ⌜ (length (now body) ≤ mostBytes) × (p ≤ 8 * length (now body)) ⌝ }
+    ensures { λ r. ⌜ wordSays r ≡ deltaWord (drop p (bitsOf (now (body .entry)))) ⌝ }
+{
+    let first = gamma_in(body, p, 5, 33);
+    let Codeword::Value(long, size) = first else {
+        return first;
+    };
+    let n = (long - 1) as usize;
+    let left = 8 * body.len() - p;
+    if left - size < n {
+        return Codeword::Refused(9);
+    }
+    within((1 << n) + take_bits(body, p + size, n), 4294967296, size + n)
+}
+
+// The codeword at a bit, which may lie past the end.
+pub fn word_at(body: &[u8], p: usize, form: Form) -> Codeword
+    requires { ⌜ length (now body) ≤ mostBytes ⌝ }
+    ensures { λ r. ⌜ wordSays r ≡ wordOf form (drop p (bitsOf (now (body .entry)))) ⌝ }
+{
+    if 8 * body.len() <= p {
+        return Codeword::Refused(9);
+    }
+    match form {
+        Form::Gamma => gamma_in(body, p, 32, 4294967296),
+        Form::Delta => delta_at(body, p),
+    }
+}
+
+// Nothing is left from a bit on but spare bits, which are 0.
+pub fn done(body: &[u8], p: usize) -> bool
+    requires { ⌜ (length (now body) ≤ mostBytes) × (p ≤ 8 * length (now body)) ⌝ }
+    ensures { λ r. ⌜ r ≡ doneElias (now (body .entry)) (atBit p) ⌝ }
+{
+    let left = 8 * body.len() - p;
+    if 7 < left {
+        return false;
+    }
+    top(peek(body, p), 7) == 0
+}

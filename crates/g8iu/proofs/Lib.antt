@@ -1,0 +1,13 @@
+-- The laws of G8IU, and the steps of this crate's functions on plain values.
+pub mod Tables
+pub mod Controls
+pub mod Blocks
+pub mod Units
+pub mod Laws
+pub mod Parts
+pub mod Puts
+pub mod Writes
+pub mod Ends
+pub mod Takes
+pub mod Eights
+pub mod Readings

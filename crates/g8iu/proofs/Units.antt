@@ -1,0 +1,184 @@
+-- A unit of G8IU: a block that was written reads back, and what reads as numbers is their block. Assumes nothing.
+use Prim.Native.Nat.{ℕ, zero, suc, _+_, _-_, _≤_, _<_}
+use mathlib.Core.Path.{_≡_, refl, sym, ap, ap₂, _∙_, subst}
+use mathlib.Core.Bool.{Bool, true, false, _||_}
+use mathlib.Core.List.{List, [], _∷_, _++_, map}
+use native.Mathlib.Nat.{add-zero}
+use native.Mathlib.Numerals.{add-one}
+use native.Mathlib.Omega.{arith}
+use lib.Dec.{leb, eqb}
+use lib.ListN.{length, getD, take, drop, replicate, length-append, length-drop, length-map, take-append-drop}
+use lib.Seq.{getD-drop, drop-drop, take-at, drop-at, drop-append-seam, drop-cons, length-take-le}
+use borrow.Author.Tests.{le-leb, leb-true, eqb-true}
+use Rattle.meaning.specs.Answer.{Answer, given, bind, need}
+use Rattle.meaning.specs.Limits.{fault, numberLimit}
+use Rattle.meaning.specs.Lists.{all, sum}
+use Rattle.meaning.specs.Places.{Below}
+use Rattle.meaning.specs.Positions.{atByte}
+use Rattle.meaning.specs.Bytes.{numberOf}
+use Rattle.meaning.specs.Fields.{byteLength, fields, fieldsIn}
+use Rattle.meaning.specs.G8IU.{blockControl, block, blockLengths, blockIn, unitG8IU}
+use Rattle.meaning.specs.declared.Position.{Position}
+use Rattle.meaning.proofs.Answers.{bind-given, need-given}
+use Rattle.meaning.proofs.Bounds.{below-take, below-drop}
+use Rattle.meaning.proofs.Tests.{both-true}
+use Rattle.meaning.proofs.Units.{Good}
+use Rattle.fields.proofs.Fields.{fields-length, fields-written, fields-back}
+use Rattle.g8iu.proofs.Controls.{lengths-control, control-is}
+use Rattle.g8iu.proofs.Blocks.{lengths-some, block-length}
+
+-- ---- a list seen from an offset
+module _ (s : List ℕ) (at b : ℕ) (bs : List ℕ) (e : drop at s ≡ b ∷ bs) where
+  first-is : getD s at 0 ≡ b
+  first-is = ap (λ (k : ℕ). getD s k 0) (sym (add-zero at)) ∙ sym (getD-drop at s 0 0) ∙ ap (λ (l : List ℕ). getD l 0 0) e
+
+  later-is : drop (at + 1) s ≡ bs
+  later-is = sym (drop-drop 1 at s) ∙ ap (drop 1) e
+
+-- ---- what the tests of a block let pass
+pub record Passed (left : ℕ) (ls bytes xs : List ℕ) : Type 0 where
+  pub some : 1 ≤ length ls
+  pub few : length ls ≤ left
+  pub ends : leb (8 - sum ls) 3 || eqb (length ls) left ≡ true
+  pub clear : all (eqb 0) (drop (sum ls) bytes) ≡ true
+  pub numbers : fieldsIn ls bytes ≡ given xs
+
+pub passed : (left : ℕ) (ls bytes xs : List ℕ) → blockIn left ls bytes ≡ given xs → Passed left ls bytes xs
+unfolding blockIn
+passed left ls bytes xs e =
+    let (a, ea) = need-given (leb 1 (length ls)) fault _ xs e in
+    let (b, eb) = need-given (leb (length ls) left) fault _ xs ea in
+    let (c, ec) = need-given (leb (8 - sum ls) 3 || eqb (length ls) left) fault _ xs eb in
+    let (d, ed) = need-given (all (eqb 0) (drop (sum ls) bytes)) fault _ xs ec in
+    record { some = leb-true _ _ a; few = leb-true _ _ b; ends = c; clear = d; numbers = ed }
+
+pub block-given : (left : ℕ) (ls bytes xs : List ℕ) → Passed left ls bytes xs → blockIn left ls bytes ≡ given xs
+unfolding blockIn
+block-given left ls bytes xs t = rw (le-leb 1 (length ls) (t .some), le-leb (length ls) left (t .few), t .ends, t .clear) (t .numbers)
+
+-- ---- written and read
+zeros-zero : (n : ℕ) → all (eqb 0) (replicate n 0) ≡ true
+unfolding all
+zeros-zero zero = refl
+zeros-zero (suc n) = zeros-zero n
+
+-- the list ends with the block, or its waste is at most 3
+abbrev pub Ends : ℕ → List ℕ → Bool
+Ends left xs = leb (8 - length (fields xs)) 3 || eqb (length xs) left
+
+module _ (left : ℕ) (xs : List ℕ) (some : 1 ≤ length xs) (few : length xs ≤ left) (small : Below numberLimit xs) (fitted : length (fields xs) ≤ 8) (ends : Ends left xs ≡ true) where
+  abbrev data-of : List ℕ
+  data-of = fields xs ++ replicate (8 - length (fields xs)) 0
+
+  block-written : blockIn left (map byteLength xs) data-of ≡ given xs
+  block-written =
+      let n = length-map xs byteLength in
+      let l = fields-length xs in
+      block-given left (map byteLength xs) data-of xs
+      (record {
+        some = omega arith;
+        few = omega arith;
+        ends = rw (n, ← l) ends;
+        clear = rw (← l, drop-append-seam (fields xs) (replicate (8 - length (fields xs)) 0)) (zeros-zero (8 - length (fields xs)));
+        numbers = fields-written xs (replicate (8 - length (fields xs)) 0) small;
+      })
+
+  -- a body that goes on with the block has it for its unit
+  pub unit-written : (body : List ℕ) (p : Position) (rest : List ℕ) → p .head .byte ≤ length body → drop (p .head .byte) body ≡ block xs ++ rest
+      → unitG8IU body left p ≡ given (atByte (p .head .byte + 9), xs)
+  unfolding unitG8IU block
+  unit-written body p rest inside e =
+      let at = p .head .byte in
+      let l : length body - at ≡ 9 + length rest = sym (length-drop at body) ∙ ap length e ∙ length-append (block xs) rest ∙ ap (λ (n : ℕ). n + length rest) (block-length xs fitted) in
+      let d : length data-of ≡ 8 = omega (arith, block-length xs fitted) in
+      rw (le-leb (at + 9) (length body) (omega arith), first-is body at _ _ e, later-is body at (blockControl (map byteLength xs)) (data-of ++ rest) e, take-at data-of rest 8 d,
+      lengths-control (map byteLength xs) (lengths-some xs) (rw (← (fields-length xs)) fitted), block-written)
+
+-- ---- read and written back
+pub fields-lengths : (ls bytes xs : List ℕ) → fieldsIn ls bytes ≡ given xs → map byteLength xs ≡ ls
+unfolding fieldsIn
+fields-lengths [] bytes xs e = let is : [] ≡ xs = cc in rw (← is)
+fields-lengths (l ∷ ls) bytes xs e =
+    let (t, e₁) = need-given (eqb (byteLength (numberOf (take l bytes))) l) fault _ xs e in
+    let (ys, ey, e₂) = bind-given (fieldsIn ls (drop l bytes)) _ xs e₁ in
+    let is : numberOf (take l bytes) ∷ ys ≡ xs = cc in
+    sym (ap (map byteLength) is) ∙ ap₂ (λ (n : ℕ) (r : List ℕ). n ∷ r) (eqb-true _ l t) (fields-lengths ls (drop l bytes) ys ey)
+
+pub fields-many : (ls bytes xs : List ℕ) → fieldsIn ls bytes ≡ given xs → length xs ≡ length ls
+fields-many ls bytes xs e = sym (length-map xs byteLength) ∙ ap length (fields-lengths ls bytes xs e)
+
+-- a unit that was read: the block is there, and its tests passed
+pub record Taken (body : List ℕ) (left : ℕ) (p : Position) (u : Position × List ℕ) : Type 0 where
+  pub inside : p .head .byte + 9 ≤ length body
+  pub next : u .0 ≡ atByte (p .head .byte + 9)
+  pub tests : Passed left (blockLengths (getD body (p .head .byte) 0)) (take 8 (drop (p .head .byte + 1) body)) (u .1)
+
+pub taken : (body : List ℕ) (left : ℕ) (p : Position) (u : Position × List ℕ) → unitG8IU body left p ≡ given u → Taken body left p u
+unfolding unitG8IU
+taken body left p u e =
+    let at = p .head .byte in
+    let ls = blockLengths (getD body at 0) in
+    let bytes = take 8 (drop (at + 1) body) in
+    let (a, ea) = need-given (leb (at + 9) (length body)) fault _ u e in
+    let (xs, eb, ec) = bind-given (blockIn left ls bytes) _ u ea in
+    let is : (atByte (at + 9), xs) ≡ u = cc in
+    record {
+      inside = leb-true _ _ a;
+      next = sym (ap (λ (v : Position × List ℕ). v .0) is);
+      tests = subst (Passed left ls bytes) (ap (λ (v : Position × List ℕ). v .1) is) (passed left ls bytes xs eb);
+    }
+
+pub good : (body : List ℕ) → Good (unitG8IU body)
+good body =
+    record {
+      some = λ left p u h e. let t = taken body left p u e .tests in omega (arith, fields-many _ _ _ (t .numbers));
+      few = λ left p u h e. let t = taken body left p u e .tests in omega (arith, fields-many _ _ _ (t .numbers));
+    }
+
+zeros-are : (bs : List ℕ) → all (eqb 0) bs ≡ true → bs ≡ replicate (length bs) 0
+unfolding all
+zeros-are [] h = refl
+zeros-are (b ∷ bs) h =
+    let (z, r) = both-true (eqb 0 b) (all (eqb 0) bs) h in
+    ap₂ (λ (x : ℕ) (l : List ℕ). x ∷ l) (sym (eqb-true 0 b z)) (zeros-are bs r)
+
+-- a block that was read is the one that is written
+pub record IsBlock (c : ℕ) (bytes xs : List ℕ) : Type 0 where
+  pub is : c ∷ bytes ≡ block xs
+  pub fitted : length (fields xs) ≤ 8
+  pub small : Below numberLimit xs
+
+is-block : (c left : ℕ) (bytes xs : List ℕ) → c < 256 → Below 256 bytes → length bytes ≡ 8 → Passed left (blockLengths c) bytes xs → IsBlock c bytes xs
+unfolding block
+is-block c left bytes xs h b l t =
+    let ls = blockLengths c in
+    let k = control-is c h in
+    let f = fields-back ls bytes xs b (omega (arith, k .within)) (t .numbers) in
+    let n : length (fields xs) ≡ sum ls = fields-length xs ∙ ap sum (f .lengths) in
+    let w : length (drop (sum ls) bytes) ≡ 8 - length (fields xs) = rw (n, length-drop (sum ls) bytes, l) in
+    let waste : drop (sum ls) bytes ≡ replicate (8 - length (fields xs)) 0 = zeros-are (drop (sum ls) bytes) (t .clear) ∙ ap (λ (k : ℕ). replicate k 0) w in
+    record {
+      is = ap₂ (λ (x : ℕ) (r : List ℕ). x ∷ r) (sym (k .back) ∙ ap blockControl (sym (f .lengths)))
+          (sym (take-append-drop (sum ls) bytes) ∙ ap₂ _++_ (f .is) waste);
+      fitted = omega (arith, k .within);
+      small = f .small;
+    }
+
+pub record Back (body : List ℕ) (at : ℕ) (xs : List ℕ) : Type 0 where
+  pub is : drop at body ≡ block xs ++ drop (at + 9) body
+  pub fitted : length (fields xs) ≤ 8
+  pub small : Below numberLimit xs
+
+pub unit-back : (body : List ℕ) → Below 256 body → (left : ℕ) (p : Position) (u : Position × List ℕ) → unitG8IU body left p ≡ given u → Back body (p .head .byte) (u .1)
+unit-back body b left p u e =
+    let at = p .head .byte in
+    let t = taken body left p u e in
+    let bytes = take 8 (drop (at + 1) body) in
+    let l : length bytes ≡ 8 = length-take-le 8 (drop (at + 1) body) (omega (arith, t .inside, length-drop (at + 1) body)) in
+    let k = is-block (getD body at 0) left bytes (u .1) (b at) (below-take 256 8 (drop (at + 1) body) (below-drop 256 (at + 1) body b)) l (t .tests) in
+    let nine : take 9 (drop at body) ≡ getD body at 0 ∷ bytes = rw (add-one at, drop-cons body at 0 (omega (arith, t .inside))) in
+    record {
+      is = sym (take-append-drop 9 (drop at body)) ∙ ap₂ _++_ (nine ∙ k .is) (drop-drop 9 at body);
+      fitted = k .fitted;
+      small = k .small;
+    }

@@ -1,0 +1,79 @@
+use borrow.Author.Needs.{needs}
+use Prim.Native.Nat.{ℕ, _+_, _-_, _%_}
+use mathlib.Core.Path.{_≡_, refl, ap, _∙_}
+use mathlib.Core.List.{List}
+use native.Mathlib.Omega.{arith}
+use lib.ListN.{set, replicate}
+use lib.Seq.{sets}
+use Rattle.g8iu.proofs.Puts.{ZerosSo, zeros-turn, zeros-end}
+use Rattle.g8iu.proofs.putting.close_block.Statement.{statement}
+use Rattle.g8iu.proofs.putting.close_block.Tie as tie
+use Rattle.g8iu.proofs.putting.close_block.Reads as reads
+use Rattle.g8iu.proofs.putting.close_block.Lts as lts
+use Rattle.leaves.proofs.put.Reads as put-reads
+
+abbrev Inv-loop : tie.InvT-loop
+Inv-loop out₀ at control used i₀ out i =
+    ZerosSo out₀ at used out i
+
+abbrev μ-loop : tie.MeasureT-loop
+μ-loop out₀ at control used i₀ out i =
+    8 - i
+
+cast-put : tie.Need-cast-put Inv-loop μ-loop
+cast-put c = search needs
+
+put-requires : tie.Need-put-requires Inv-loop μ-loop
+put-requires c κs = search needs
+
+loop-holds : tie.Need-loop-holds Inv-loop μ-loop
+loop-holds c =
+    record { low = omega arith; high = omega arith; long = refl; rest = refl }
+
+add-put : tie.Need-add-put Inv-loop μ-loop
+add-put c = search needs
+
+add-put-2 : tie.Need-add-put-2 Inv-loop μ-loop
+add-put-2 c = search needs
+
+put-requires-2 : tie.Need-put-requires-2 Inv-loop μ-loop
+put-requires-2 c κs = search needs
+
+add-i : tie.Need-add-i Inv-loop μ-loop
+add-i c = search needs
+
+loop-less : tie.Need-loop-less Inv-loop μ-loop
+loop-less c = search needs
+
+loop-again : tie.Need-loop-again Inv-loop μ-loop
+loop-again c =
+    zeros-turn _ _ _ _ _ (c .before .before .before .before .before .loop .inv) _ (c .before .before .before .before .loop-test .taken) (c .before .before .put2 .ensures)
+
+same-length : tie.Need-same-length Inv-loop μ-loop
+same-length c =
+    c .before .loop .inv .long ∙ c .before .before .before .before .put .kept .0
+
+returns : tie.Need-returns Inv-loop μ-loop
+returns c =
+    let a = c .before .before .before .before .before .before .before .args in
+    let e : a .control % 256 ≡ a .control = omega (arith, c .before .before .before .before .before .before .before .pre .1) in
+    zeros-end _ _ _ _ _ (c .before .loop .inv) (c .loop-test .left)
+    ∙ ap (λ (l : List ℕ). sets l (a .at + 1 + a .used) (replicate (8 - a .used) 0)) (c .before .before .before .before .put .ensures ∙ ap (λ (v : ℕ). set (a .out .now) (a .at) v) e)
+
+pub close-block-spec : {M : Type 1} → statement M
+close-block-spec =
+    tie.close
+    (tie.spec
+    Inv-loop
+    μ-loop
+    cast-put
+    put-requires
+    loop-holds
+    add-put
+    add-put-2
+    put-requires-2
+    add-i
+    loop-less
+    loop-again
+    same-length
+    returns)

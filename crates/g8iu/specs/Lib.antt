@@ -1,0 +1,2 @@
+-- What this crate's helper functions answer, in the meaning's words.
+pub mod Blocks

@@ -1,0 +1,10 @@
+-- The facts on groups, said once for every code that has them, the laws of codes 2 and 4, and the steps of this crate's functions on plain values.
+pub mod Controls
+pub mod Fours
+pub mod OneGroup
+pub mod Grouped
+pub mod Laws
+pub mod Steps
+pub mod Answered
+pub mod Puts
+pub mod Turns

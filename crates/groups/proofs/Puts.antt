@@ -1,0 +1,160 @@
+-- What the loops that put bytes know, and the part of a list that each turn puts. Assumes nothing.
+use Prim.Native.Nat.{ℕ, zero, suc, _+_, _-_, _*_, _≤_, _<_, min}
+use mathlib.Core.Path.{_≡_, refl, sym, ap, _∙_}
+use mathlib.Core.List.{List, [], _∷_, _++_, map}
+use native.Mathlib.Nat.{add-zero, add-assoc, sub-zero}
+use native.Mathlib.Numerals.{add-one}
+use native.Mathlib.Omega.{arith}
+use lib.ListN.{length, getD, take, drop, length-append, length-take, length-drop}
+use lib.Seq.{sets, length-sets, take-nil, take-all, take-take, drop-drop, drop-cons}
+use Rattle.meaning.specs.Fields.{byteLength, fewest, fields}
+use Rattle.meaning.specs.Groups.{fours, groupCount, controlOf, control, writeGroups}
+use Rattle.meaning.specs.Lists.{joined}
+use Rattle.meaning.specs.Places.{Wrote, part}
+use Rattle.meaning.specs.declared.Offset.{Offset}
+use Rattle.meaning.proofs.Stores.{sets-append}
+use Rattle.meaning.proofs.Tests.{by-order}
+use Rattle.fields.proofs.Fields.{fields-cons, fields-most}
+use Rattle.groups.specs.Parts.{fieldsOf, controlsOf, groupsOf}
+use Rattle.groups.proofs.Fours.{groups-next, controls-next, controls-count, groups-size}
+
+-- ---- the bytes of n numbers, `bytes place count`, of which those from number i on are still to be put: putting them makes the whole
+module _ (bytes : ℕ → ℕ → List ℕ) (from n at : ℕ) (out₀ : List ℕ) where
+  pub record PutSo (out : List ℕ) (to i : ℕ) : Type 0 where
+    pub most : i ≤ n
+    pub here : sets out to (bytes (from + i) (n - i)) ≡ sets out₀ at (bytes from n)
+    pub ends : to + length (bytes (from + i) (n - i)) ≡ at + length (bytes from n)
+
+  pub put-start : PutSo out₀ at 0
+  put-start = record { most = omega arith; here = rw (add-zero from, sub-zero n); ends = rw (add-zero from, sub-zero n) }
+
+  module _ (out : List ℕ) (to i : ℕ) (so : PutSo out to i) where
+    pub put-long : length out ≡ length out₀
+    put-long = sym (length-sets out to (bytes (from + i) (n - i))) ∙ ap length (so .here) ∙ length-sets out₀ at (bytes from n)
+
+    -- those of k numbers have been put
+    pub put-turn : (k : ℕ) (front out′ : List ℕ) (to′ : Offset) → i + k ≤ n → bytes (from + i) (n - i) ≡ front ++ bytes (from + i + k) (n - i - k) → Wrote front to out out′ to′ → PutSo out′ (to′ .byte) (i + k)
+    put-turn k front out′ to′ h e p =
+        let m : n - i - k ≡ n - (i + k) = omega arith in
+        let e′ : bytes (from + i) (n - i) ≡ front ++ bytes (from + (i + k)) (n - (i + k)) = e ∙ rw (add-assoc from i k, m) in
+        let l = ap length e′ ∙ length-append front (bytes (from + (i + k)) (n - (i + k))) in
+        record {
+          most = h;
+          here = rw (p .here, p .ends) (sets-append front (bytes (from + (i + k)) (n - (i + k))) out to ∙ ap (sets out to) (sym e′)) ∙ so .here;
+          ends = omega (arith, p .ends, so .ends);
+        }
+
+    pub put-end : n ≤ i → ((place : ℕ) → bytes place 0 ≡ []) → Wrote (bytes from n) at out₀ out (record { byte = to })
+    put-end h none =
+        let m : n - i ≡ 0 = omega arith in
+        let e : bytes (from + i) (n - i) ≡ [] = rw m (none (from + i)) in
+        record { ends = sym (add-zero to) ∙ ap (λ (l : List ℕ). to + length l) (sym e) ∙ so .ends; here = ap (sets out to) (sym e) ∙ so .here }
+
+-- bytes put after bytes
+pub put-after : (xs ys : List ℕ) (at : ℕ) (mid end : Offset) (out out₁ out₂ : List ℕ) → Wrote xs at out out₁ mid → Wrote ys (mid .byte) out₁ out₂ end → Wrote (xs ++ ys) at out out₂ end
+put-after xs ys at mid end out out₁ out₂ p q =
+    record { ends = omega (arith, p .ends, q .ends, length-append xs ys); here = q .here ∙ rw (p .here, p .ends) (sets-append xs ys out at) }
+
+-- ---- parts of a list
+module _ (xs : List ℕ) where
+  pub part-length : (from m : ℕ) → from + m ≤ length xs → length (part xs from m) ≡ m
+  part-length from m h = length-take m (drop from xs) ∙ omega (arith, length-drop from xs)
+
+  pub part-next : (from m : ℕ) → 0 < m → from + m ≤ length xs → part xs from m ≡ getD xs from 0 ∷ part xs (from + 1) (m - 1)
+  part-next from m some h =
+      let n : m ≡ suc (m - 1) = omega arith in
+      ap (λ (k : ℕ). take k (drop from xs)) n ∙ ap (take (suc (m - 1))) (drop-cons xs from 0 (omega arith)) ∙ rw add-one
+
+drop-take : (k m : ℕ) (l : List ℕ) → drop k (take m l) ≡ take (m - k) (drop k l)
+drop-take zero m l = rw (sub-zero m)
+drop-take (suc k) zero l = let e : 0 - suc k ≡ 0 = omega arith in rw e
+drop-take (suc k) (suc m) [] = sym (take-nil (suc m - suc k))
+drop-take (suc k) (suc m) (x ∷ l) = let e : suc m - suc k ≡ m - k = omega arith in rw e (drop-take k m l)
+
+-- the next group of a part, and the part after it
+pub part-four : (xs : List ℕ) (from m k : ℕ) → k ≡ min 4 m → (take 4 (part xs from m) ≡ part xs from k) × (drop 4 (part xs from m) ≡ part xs (from + k) (m - k))
+part-four xs from m k e =
+    by-order m 4
+    (λ t. let n : k ≡ m = omega arith in
+    let z : m - 4 ≡ 0 = omega arith in
+    let y : m - m ≡ 0 = omega arith in
+    rw n (take-all 4 (part xs from m) (omega (arith, length-take m (drop from xs))), drop-take 4 m (drop from xs) ∙ rw (z, y)))
+    (λ t. let n : k ≡ 4 = omega arith in
+    rw n (take-take 4 m (drop from xs) t, drop-take 4 m (drop from xs) ∙ ap (take (m - 4)) (drop-drop 4 from xs)))
+
+-- ---- what each loop puts, and what one turn of it puts first
+module _ (xs : List ℕ) where
+  pub fields-none : (place : ℕ) → fieldsOf xs place 0 ≡ []
+  unfolding fields joined
+  fields-none place = refl
+
+  pub controls-none : (place : ℕ) → controlsOf xs place 0 ≡ []
+  unfolding fours
+  controls-none place = refl
+
+  pub groups-none : (place : ℕ) → groupsOf xs place 0 ≡ []
+  unfolding writeGroups fours joined
+  groups-none place = refl
+
+  module _ (from left : ℕ) (some : 0 < left) (inside : from + left ≤ length xs) where
+    pub fields-turn : fieldsOf xs from left ≡ fewest (getD xs from 0) ++ fieldsOf xs (from + 1) (left - 1)
+    fields-turn = rw (part-next xs from left some inside) (fields-cons (getD xs from 0) (part xs (from + 1) (left - 1)))
+
+    module _ (k : ℕ) (next : k ≡ min 4 left) where
+      some-part : 0 < length (part xs from left)
+      some-part = omega (arith, part-length xs from left inside)
+
+      pub controls-turn : controlsOf xs from left ≡ control (part xs from k) ∷ controlsOf xs (from + k) (left - k)
+      controls-turn = let (front, back) = part-four xs from left k next in controls-next (part xs from left) some-part ∙ rw (front, back)
+
+      pub groups-turn : groupsOf xs from left ≡ control (part xs from k) ∷ (fields (part xs from k) ++ groupsOf xs (from + k) (left - k))
+      groups-turn = let (front, back) = part-four xs from left k next in groups-next (part xs from left) some-part ∙ rw (front, back)
+
+  -- at most 4 bytes a number, one a group
+  module _ (from n : ℕ) (inside : from + n ≤ length xs) where
+    pub fields-bound : length (fieldsOf xs from n) ≤ 4 * n
+    fields-bound = omega (arith, fields-most (part xs from n), part-length xs from n inside)
+
+    pub controls-bound : length (controlsOf xs from n) ≤ n
+    unfolding groupCount
+    controls-bound = omega (arith, controls-count (part xs from n), part-length xs from n inside)
+
+    pub groups-bound : length (groupsOf xs from n) ≤ 5 * n
+    unfolding groupCount
+    groups-bound = omega (arith, groups-size (part xs from n), fields-bound, part-length xs from n inside)
+
+-- before a group there is room for its control byte
+pub groups-room : (xs : List ℕ) (from n at : ℕ) (out₀ out : List ℕ) (to i : ℕ) → PutSo (groupsOf xs) from n at out₀ out to i → from + n ≤ length xs → i < n → to + 1 ≤ at + 5 * n
+groups-room xs from n at out₀ out to i so inside more =
+    let next = groups-turn xs (from + i) (n - i) (omega arith) (omega arith) (min 4 (n - i)) refl in
+    omega (arith, ap length next, so .ends, groups-bound xs from n inside)
+
+-- ---- the control byte of one to four numbers of a list
+module _ (xs : List ℕ) where
+  -- a number's field
+  abbrev field : ℕ → ℕ
+  field from = byteLength (getD xs from 0) - 1
+
+  control-next : (from m : ℕ) → 0 < m → from + m ≤ length xs → control (part xs from m) ≡ field from + 4 * control (part xs (from + 1) (m - 1))
+  unfolding control controlOf
+  control-next from m some h = rw (part-next xs from m some h)
+
+  pub control-0 : (from : ℕ) → 0 ≡ control (part xs from 0)
+  unfolding control controlOf
+  control-0 from = refl
+
+  -- the number after the next
+  later : (from k : ℕ) → field (from + 1 + k) ≡ field (from + (1 + k))
+  later from k = ap field (add-assoc from 1 k)
+
+  pub control-1 : (from : ℕ) → from + 1 ≤ length xs → field from ≡ control (part xs from 1)
+  control-1 from h = omega (arith, control-next from 1 (omega arith) h, control-0 (from + 1))
+
+  pub control-2 : (from : ℕ) → from + 2 ≤ length xs → field from + 4 * field (from + 1) ≡ control (part xs from 2)
+  control-2 from h = omega (arith, control-next from 2 (omega arith) h, control-1 (from + 1) (omega arith))
+
+  pub control-3 : (from : ℕ) → from + 3 ≤ length xs → field from + 4 * field (from + 1) + 16 * field (from + 2) ≡ control (part xs from 3)
+  control-3 from h = omega (arith, control-next from 3 (omega arith) h, control-2 (from + 1) (omega arith), later from 1)
+
+  pub control-4 : (from : ℕ) → from + 4 ≤ length xs → field from + 4 * field (from + 1) + 16 * field (from + 2) + 64 * field (from + 3) ≡ control (part xs from 4)
+  control-4 from h = omega (arith, control-next from 4 (omega arith) h, control-3 (from + 1) (omega arith), later from 1, later from 2)

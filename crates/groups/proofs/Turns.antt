@@ -1,0 +1,102 @@
+-- What the loop of a strict reading knows, for every code of groups. Assumes nothing.
+use Prim.Native.Nat.{ℕ, _+_, _-_, _≤_, _<_, min}
+use mathlib.Core.Path.{_≡_, refl, sym, ap, _∙_, subst}
+use mathlib.Core.Bool.{Bool, true, false}
+use mathlib.Core.List.{List, []}
+use native.Mathlib.Omega.{arith}
+use lib.ListN.{length, take}
+use lib.Seq.{sets, length-take-le}
+use borrow.Author.Tests.{le-leb, lt-leb}
+use Rattle.meaning.specs.Answer.{Answer, given, refused, amount}
+use Rattle.meaning.specs.Codes.{codeGroups, codeStream, readCode, always, toLast}
+use Rattle.meaning.specs.Groups.{groupCount, groupAt, unitGroups, unitStream}
+use Rattle.meaning.specs.Limits.{fault}
+use Rattle.meaning.specs.Places.{Got}
+use Rattle.meaning.specs.Positions.{atByte, atControl}
+use Rattle.meaning.specs.Units.{readUnits}
+use Rattle.meaning.specs.declared.Offset.{Offset}
+use Rattle.meaning.specs.declared.Position.{Position}
+use Rattle.meaning.specs.declared.Reading.the-variants.{Whole, Refused}
+use Rattle.meaning.proofs.Answers.{not-given}
+use Rattle.meaning.proofs.Loops.{ReadSo, read-start, read-turn, read-refuse, read-end, got-refused, got-whole}
+use Rattle.groups.specs.Group.{GroupIs}
+use Rattle.groups.specs.declared.group.Group.the-variants as group
+use Rattle.groups.specs.declared.group.GroupRead.{GroupRead}
+use Rattle.groups.proofs.Answered.{group-ends}
+use Rattle.groups.proofs.Grouped.{Layout, unitBy, good}
+use Rattle.groups.proofs.Laws.{behind, apart, toTail}
+use Rattle.groups.proofs.OneGroup.{many-at, there-at, inside-at}
+
+-- ---- one turn: the group that was read
+pub record Turn (body : List ℕ) (left at from end k : ℕ) (ns : List ℕ) : Type 0 where
+  pub is : groupAt body left at from ≡ given (end, take k ns)
+  pub count : k ≡ min 4 left
+  pub size : length (take k ns) ≡ k
+  pub there : at < length body
+  pub inside : end ≤ length body
+
+pub turn : (body : List ℕ) (left at from : ℕ) (r : GroupRead) → GroupIs (groupAt body left at from) r → length (r .numbers) ≡ 4 → 0 < left
+    → (end : Offset) (k : ℕ) → r .group ≡ group.Ends end k → Turn body left at from (end .byte) k (r .numbers)
+turn body left at from r h four some end k e =
+    let (is, few) = group-ends (groupAt body left at from) r h end k e in
+    let size = length-take-le k (r .numbers) (omega arith) in
+    record {
+      is = is;
+      count = sym size ∙ many-at body left at from (end .byte, take k (r .numbers)) is;
+      size = size;
+      there = there-at body left at from (end .byte, take k (r .numbers)) is;
+      inside = inside-at body left at from (end .byte, take k (r .numbers)) some is .1;
+    }
+
+-- ---- i numbers have been read and stand in work, and the next group is at p
+pub record Reads (g : Layout) (body : List ℕ) (done : Position → Bool) (n : ℕ) (p₀ : Position) (w₀ : List ℕ) (from : ℕ) (w : List ℕ) (i : ℕ) (p : Position) : Type 0 where
+  pub before : List ℕ
+  pub so : ReadSo (unitBy g body) always done n p₀ w₀ from w i before p
+
+module _ (g : Layout) (body : List ℕ) (done : Position → Bool) (n : ℕ) (p₀ : Position) (w₀ : List ℕ) (from : ℕ) where
+  pub reads-start : Reads g body done n p₀ w₀ from w₀ 0 p₀
+  reads-start = record { before = []; so = read-start (unitBy g body) always done n p₀ w₀ from }
+
+  module _ (w : List ℕ) (i : ℕ) (p : Position) (r : Reads g body done n p₀ w₀ from w i p) where
+    pub reads-turn : (end k : ℕ) (ns w′ : List ℕ) → from + n ≤ length w₀ → i < n → Turn body (n - i) (g .head p) (g .from p) end k ns → w′ ≡ sets w (from + i) (take k ns)
+        → Reads g body done n p₀ w₀ from w′ (i + k) (g .next p end)
+    reads-turn end k ns w′ fits more t ew =
+        record {
+          before = take k ns;
+          so =
+              subst (λ (m : ℕ). ReadSo (unitBy g body) always done n p₀ w₀ from w′ (i + m) (take k ns) (g .next p end)) (t .size)
+              (read-turn (unitBy g body) always done n p₀ w₀ from (good g body) w i (r .before) p (r .so) (g .next p end, take k ns) w′ fits more (rw (t .is)) refl ew);
+        }
+
+    -- ---- what the loop answers
+    module _ (a : Answer (List ℕ)) (is : a ≡ readUnits (unitBy g body) always done n [] p₀) where
+      pub reads-refused : (z : ℕ) → i < n → groupAt body (n - i) (g .head p) (g .from p) ≡ refused z → Got a from w₀ w (Refused z)
+      reads-refused z more e =
+          got-refused (unitBy g body) always done n p₀ w₀ from (good g body) w i (r .before) p (r .so) a is z
+          (is ∙ read-refuse (unitBy g body) always done n p₀ w₀ from (good g body) w i (r .before) p (r .so) z more (rw e))
+
+      -- something is left over
+      pub reads-left : n ≤ i → done p ≡ false → Got a from w₀ w (Refused fault)
+      reads-left all d =
+          got-refused (unitBy g body) always done n p₀ w₀ from (good g body) w i (r .before) p (r .so) a is fault
+          (is ∙ read-end (unitBy g body) always done n p₀ w₀ from (good g body) w i (r .before) p (r .so) all ∙ rw d)
+
+      pub reads-whole : n ≤ i → done p ≡ true → Got a from w₀ w (Whole n)
+      reads-whole all d = got-whole (unitBy g body) always done n p₀ w₀ from (good g body) w i (r .before) p (r .so) a is all d
+
+-- ---- each code's reading is such a loop
+pub groups-reading : (body : List ℕ) (n : ℕ) → readCode codeGroups body n ≡ readUnits (unitBy behind body) always (toLast body) n [] (atByte 0)
+unfolding readCode unitGroups
+groups-reading body n = refl
+
+pub stream-reading : (body : List ℕ) (n groups : ℕ) → groups ≡ groupCount n → groups ≤ length body
+    → readCode codeStream body n ≡ readUnits (unitBy apart body) always (toTail body) n [] (atControl 0 groups)
+unfolding readCode unitStream
+stream-reading body n groups e h = rw (← e, le-leb groups (length body) h)
+
+-- the control bytes do not fit the body
+pub stream-cut : (body : List ℕ) (n from : ℕ) (w : List ℕ) → length body < groupCount n → Got (readCode codeStream body n) from w w (Refused fault)
+unfolding readCode
+stream-cut body n from w h =
+    let e : readCode codeStream body n ≡ refused fault = rw (lt-leb (groupCount n) (length body) h) in
+    record { told = ap amount (sym e); here = λ xs q. absurd (not-given fault xs (sym e ∙ q)); kept = refl }

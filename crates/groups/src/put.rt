@@ -1,0 +1,78 @@
+// Control bytes and data put into an output.
+use crate::group::at_most_four;
+use fields::byte_length;
+use fields::put_fewest;
+use leaves::put;
+use meaning::Offset;
+use meaning::Place;
+ghost use mathlib.Core.Path.{_≡_};
+ghost use Prim.Native.Nat.{_+_, _-_, _*_, _<_, _≤_, _^_};
+ghost use lib.ListN.{length};
+ghost use Rattle.meaning.specs.Fields.{byteLength};
+ghost use Rattle.meaning.specs.Groups.{control};
+ghost use Rattle.meaning.specs.Places.{Wrote, part};
+ghost use Rattle.groups.specs.Parts.{controlsOf, fieldsOf};
+
+// What a number's field says: its length minus one.
+fn field_of(x: u32) -> usize
+    ensures { λ r. ⌜ (r ≡ byteLength x - 1) × (r < 4) ⌝ }
+{
+    byte_length(x) - 1
+}
+
+// The control byte of k numbers, at most four, from a place on.
+pub fn control_of(list: &[u32], from: Place, k: usize) -> u8
+    requires { ⌜ (k ≤ 4) × (from .number + k ≤ length (now list)) ⌝ }
+    ensures { λ r. ⌜ r ≡ control (part (now (list .entry)) (from .number) k) ⌝ }
+{
+    let first = from.number;
+    if k == 0 {
+        return 0;
+    }
+    let a = field_of(list[first]);
+    if k == 1 {
+        return a as u8;
+    }
+    let b = a + 4 * field_of(list[first + 1]);
+    if k == 2 {
+        return b as u8;
+    }
+    let c = b + 16 * field_of(list[first + 2]);
+    if k == 3 {
+        return c as u8;
+    }
+    let d = c + 64 * field_of(list[first + 3]);
+    d as u8
+}
+
+// Puts the control bytes of n numbers from a place on, and answers the offset after them.
+pub fn put_controls(list: &[u32], from: Place, n: usize, out: &mut [u8], at: Offset) -> Offset
+    requires { ⌜ (from .number + n ≤ length (now list)) × (at .byte + n < 2 ^ 63) ⌝ }
+    ensures { λ r. ⌜ Wrote (controlsOf (now (list .entry)) (from .number) n) (at .byte) (now (out .entry)) (now (out .exit)) r ⌝ }
+{
+    let first = from.number;
+    let mut to = at.byte;
+    let mut i: usize = 0;
+    while i < n {
+        let k = at_most_four(n - i);
+        put(out, to, control_of(list, Place { number: first + i }, k));
+        to += 1;
+        i += k;
+    }
+    Offset { byte: to }
+}
+
+// Puts the data of n numbers from a place on, and answers the offset after it.
+pub fn put_fields(list: &[u32], from: Place, n: usize, out: &mut [u8], at: Offset) -> Offset
+    requires { ⌜ (from .number + n ≤ length (now list)) × (at .byte + 4 * n < 2 ^ 63) ⌝ }
+    ensures { λ r. ⌜ Wrote (fieldsOf (now (list .entry)) (from .number) n) (at .byte) (now (out .entry)) (now (out .exit)) r ⌝ }
+{
+    let first = from.number;
+    let mut to = at.byte;
+    let mut i: usize = 0;
+    while i < n {
+        to = put_fewest(out, to, list[first + i]);
+        i += 1;
+    }
+    Offset { byte: to }
+}

@@ -1,0 +1,32 @@
+-- `judge_when` refuses in the definition's order. Assumes nothing.
+use borrow.Author.Needs.{needs}
+use Rattle.judge.proofs.FrontLaws.{unknown, malformed, unfit, passed-all}
+use Rattle.judge.proofs.judge_when.Statement.{statement}
+use Rattle.judge.proofs.judge_when.Tie as tie
+
+well-formed-requires : tie.Need-well-formed-requires
+well-formed-requires c κs = search needs
+
+passes-plan-requires : tie.Need-passes-plan-requires
+passes-plan-requires c κs = search needs
+
+returns : tie.Need-returns
+returns c =
+    unknown _ _ (c .before .before .before .before .args .known) _ _ (c .before .before .well-formed .ensures) (c .before .passes-plan .ensures) (c .if1 .taken)
+
+returns-2 : tie.Need-returns-2
+returns-2 c =
+    malformed _ _ (c .before .before .before .before .before .args .known) _ _ (c .before .before .before .well-formed .ensures) (c .before .before .passes-plan .ensures) (c .before .if1 .left) (c .if2 .taken)
+
+returns-3 : tie.Need-returns-3
+returns-3 c =
+    unfit _ _ (c .before .before .before .before .before .before .args .known) _ _ (c .before .before .before .before .well-formed .ensures) (c .before .before .before .passes-plan .ensures) (c .before .before .if1 .left) (c .before .if2 .left) (c .if3 .taken)
+
+returns-4 : tie.Need-returns-4
+returns-4 c =
+    passed-all _ _ (c .before .before .before .before .before .before .args .known) _ _ (c .before .before .before .before .well-formed .ensures) (c .before .before .before .passes-plan .ensures) (c .before .before .if1 .left) (c .before .if2 .left) (c .if3 .left)
+
+pub judge-when-spec : {M : Type 1} → statement M
+judge-when-spec =
+    tie.close
+    (tie.spec well-formed-requires passes-plan-requires returns returns-2 returns-3 returns-4)

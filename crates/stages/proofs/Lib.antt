@@ -1,0 +1,19 @@
+-- Laws of the stages and of plans, and what the loops below the stages know.
+pub mod Words
+pub mod Lists
+pub mod Parts
+pub mod Gots
+pub mod Walks
+pub mod Scans
+pub mod Reference
+pub mod Differences
+pub mod Runs
+pub mod RunsBack
+pub mod Codes
+pub mod Most
+pub mod Forth
+pub mod Back
+pub mod Looks
+pub mod Raises
+pub mod Unrolls
+pub mod RunLoop

@@ -1,0 +1,2 @@
+-- What this crate's functions leave in work, in the meaning's words.
+pub mod Runs

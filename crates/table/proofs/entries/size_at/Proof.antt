@@ -1,0 +1,29 @@
+-- `size_at` reads an entry's body length. Assumes nothing.
+use mathlib.Core.Path.{_∙_}
+use borrow.Author.Needs.{needs}
+use Rattle.table.proofs.EntryLaws.{size-here}
+use Rattle.table.proofs.entries.size_at.Statement.{statement}
+use Rattle.table.proofs.entries.size_at.Tie as tie
+
+entry-start-requires : tie.Need-entry-start-requires
+entry-start-requires c κs = search needs
+
+add-word-at : tie.Need-add-word-at
+add-word-at c = search needs
+
+word-at-requires : tie.Need-word-at-requires
+word-at-requires c κs = search needs
+
+cast-result : tie.Need-cast-result
+cast-result c = search needs
+
+returns : tie.Need-returns
+returns c =
+    let a = c .before .before .before .before .args in (
+      c .word-at .ensures ∙ size-here (a .sheet .now) (a .column) (c .before .before .before .before .pre .below) (c .before .before .entry-start .result .byte) (c .before .before .entry-start .ensures),
+      search needs,
+    )
+
+pub size-at-spec : {M : Type 1} → statement M
+size-at-spec =
+    tie.close (tie.spec entry-start-requires add-word-at word-at-requires cast-result returns)

@@ -1,0 +1,124 @@
+// The table's entries: where they stand, what they say, and where bodies begin.
+use fields::word_at;
+use leaves::wide;
+use meaning::Offset;
+ghost use mathlib.Core.Path.{_≡_};
+ghost use Prim.Native.Nat.{_+_, _*_, _<_, _≤_, _^_};
+ghost use lib.ListN.{length};
+ghost use Rattle.meaning.specs.Limits.{numberLimit};
+ghost use Rattle.meaning.specs.Lists.{all};
+ghost use Rattle.meaning.specs.Sheet.{entrySize, tableSize, columnsOf, columnAt};
+ghost use Rattle.table.specs.Offsets.{columnCount, entryOffset, bodyOffset, Within};
+ghost use Rattle.table.specs.Rules.{entryHolds};
+
+// The edition and the number of columns stand before the entries.
+const HEAD_SIZE: usize = 2;
+
+// An entry: its kind, then its plan, its count and its body's length.
+const ENTRY_SIZE: usize = 24;
+const PLAN_IN: usize = 1;
+const COUNT_IN: usize = 16;
+const SIZE_IN: usize = 20;
+
+// Rising, the largest kind.
+const RISING: u8 = 1;
+
+// A list's numbers.
+const MOST_NUMBERS: usize = 1024;
+
+// The number of columns.
+pub fn column_count(sheet: &[u8]) -> usize
+    requires { ⌜ 2 ≤ length (now sheet) ⌝ }
+    ensures { λ r. ⌜ (r ≡ columnCount (now (sheet .entry))) × (r < 256) ⌝ }
+{
+    wide(sheet[1]) as usize
+}
+
+// Where a column's entry begins; that of the column past the last is where the table ends.
+pub fn entry_start(column: usize) -> Offset
+    requires { ⌜ entryOffset column < 2 ^ 64 ⌝ }
+    ensures { λ r. ⌜ r .byte ≡ entryOffset column ⌝ }
+{
+    Offset { byte: HEAD_SIZE + ENTRY_SIZE * column }
+}
+
+// Where a column's plan begins.
+pub fn plan_start(column: usize) -> Offset
+    requires { ⌜ 3 + entrySize * column < 2 ^ 64 ⌝ }
+    ensures { λ r. ⌜ r .byte ≡ 3 + entrySize * column ⌝ }
+{
+    let start = entry_start(column);
+    Offset { byte: start.byte + PLAN_IN }
+}
+
+// A column's kind.
+pub fn kind_at(sheet: &[u8], column: usize) -> u8
+    requires { ⌜ Within (now sheet) column ⌝ }
+    ensures { λ r. ⌜ r ≡ columnAt (now (sheet .entry)) column .kind ⌝ }
+{
+    let start = entry_start(column);
+    let at = start.byte;
+    sheet[at]
+}
+
+// A column's count.
+pub fn count_at(sheet: &[u8], column: usize) -> usize
+    requires { ⌜ Within (now sheet) column ⌝ }
+    ensures { λ r. ⌜ r ≡ columnAt (now (sheet .entry)) column .count ⌝ }
+{
+    let start = entry_start(column);
+    word_at(sheet, start.byte + COUNT_IN) as usize
+}
+
+// The length of a column's body.
+pub fn size_at(sheet: &[u8], column: usize) -> usize
+    requires { ⌜ Within (now sheet) column ⌝ }
+    ensures { λ r. ⌜ (r ≡ columnAt (now (sheet .entry)) column .size) × (r < numberLimit) ⌝ }
+{
+    let start = entry_start(column);
+    word_at(sheet, start.byte + SIZE_IN) as usize
+}
+
+// Where a column's body begins: after the table and the bodies before it. That of the column past the last is where the bodies end.
+pub fn body_start(sheet: &[u8], column: usize) -> Offset
+    requires { ⌜ (tableSize (now sheet) ≤ length (now sheet)) × (column ≤ columnCount (now sheet)) ⌝ }
+    ensures { λ r. ⌜ r .byte ≡ bodyOffset (now (sheet .entry)) column ⌝ }
+{
+    let columns = column_count(sheet);
+    let table = entry_start(columns);
+    let mut at = table.byte;
+    let mut k: usize = 0;
+    while k < column {
+        at += size_at(sheet, k);
+        k += 1;
+    }
+    Offset { byte: at }
+}
+
+// Whether a column's kind is at most 1 and its count at most 1,024.
+fn entry_holds(sheet: &[u8], column: usize) -> bool
+    requires { ⌜ Within (now sheet) column ⌝ }
+    ensures { λ r. ⌜ r ≡ entryHolds (columnAt (now (sheet .entry)) column) ⌝ }
+{
+    if RISING < kind_at(sheet, column) {
+        return false;
+    }
+    count_at(sheet, column) <= MOST_NUMBERS
+}
+
+// Whether every entry holds.
+pub fn entries_hold(sheet: &[u8]) -> bool
+    requires { ⌜ tableSize (now sheet) ≤ length (now sheet) ⌝ }
+    ensures { λ r. ⌜ r ≡ all entryHolds (columnsOf (now (sheet .entry))) ⌝ }
+{
+    let columns = column_count(sheet);
+    let mut k: usize = 0;
+    while k < columns {
+        let held = entry_holds(sheet, k);
+        if !held {
+            return false;
+        }
+        k += 1;
+    }
+    true
+}

@@ -1,0 +1,203 @@
+#!/usr/bin/env python3
+"""The meaning, computed, against the plain reading: random cases become equations between a definition of
+crates/meaning/specs and what tests/reading.py answers, and the checker has to find every one true by computation.
+Usage: meaning.py [cases] [seed]. The equations stand in a repository of their own below target/."""
+import glob
+import os
+import random
+import re
+import shutil
+import subprocess
+import sys
+
+import reading as R
+
+ROOT = os.path.join(os.path.dirname(os.path.abspath(__file__)), "..")
+PLACE = os.path.join(ROOT, "target", "meaning-cases")
+CASES = int(sys.argv[1]) if len(sys.argv) > 1 else 600
+RANDOM = random.Random(int(sys.argv[2]) if len(sys.argv) > 2 else 1)
+LARGEST = 2 ** 32 - 1
+equations = []
+
+
+def listed(xs):
+    return "(" + " ∷ ".join([str(x) for x in xs] + ["[]"]) + ")" if xs else "[]"
+
+
+def says(left, right):
+    equations.append((left, right))
+
+
+def answer(ask, shown):
+    try:
+        return "given " + shown(ask())
+    except R.Refused as e:
+        return "refused %d" % e.number
+
+
+def verdict(ask, then):
+    try:
+        return then(ask())
+    except R.Refused as e:
+        return "blamed %d %d" % (e.number, e.column)
+
+
+def number():
+    return LARGEST if RANDOM.random() < 0.1 else RANDOM.randrange(2 ** RANDOM.choice([1, 3, 7, 8, 9, 14, 16, 17, 24, 25, 32, 32]))
+
+
+def numbers(kind, n):
+    xs = [number() for _ in range(n)]
+    if RANDOM.random() < 0.4:
+        xs = [x for x in xs for _ in range(RANDOM.choice([1, 1, 2, 3]))][:n]
+    return sorted(xs) if kind == 1 else xs
+
+
+def damaged(data):
+    data = bytearray(data)
+    for _ in range(RANDOM.choice([0, 1, 1, 2])):
+        way = RANDOM.random()
+        if way < 0.5 and data:
+            data[RANDOM.randrange(len(data))] = RANDOM.choice([0, 1, 128, 255, RANDOM.randrange(256)])
+        elif way < 0.6 and data:
+            del data[RANDOM.randrange(len(data))]
+        elif way < 0.8:
+            data.append(RANDOM.choice([0, 1, RANDOM.randrange(256)]))
+        else:
+            data = data[:RANDOM.randrange(len(data) + 1)]
+    return bytes(data)
+
+
+def plan(stages, kind):
+    way = RANDOM.random()
+    if stages == 0 or way < 0.4:
+        return [RANDOM.randint(1, 6)]
+    if way < 0.6:
+        return [16] + plan(stages - 1, kind)
+    if way < 0.8 and (kind == 1 or RANDOM.random() < 0.1):
+        return [17] + plan(stages - 1, 0)
+    return [18] + plan(stages - 1, kind) + plan(stages - 1, 0)
+
+
+def fill(bytes_of_plan):
+    return bytes((list(bytes_of_plan) + [0] * 15)[:15])
+
+
+def case_code():
+    code, n = RANDOM.randint(1, 6), RANDOM.randint(0, 7)
+    body = R.write_code(code, xs := numbers(0, n))
+    says("write (code %d) %s" % (code, listed(xs)), listed(body))
+    body, n = damaged(body), max(0, n + RANDOM.choice([0, 0, 0, -1, 1]))
+    says("read (code %d) %s %d" % (code, listed(body), n), answer(lambda: R.read_code(code, body, n), listed))
+    if n:
+        place = RANDOM.randrange(n)
+        says("look (code %d) %s %d %d" % (code, listed(body), n, place), answer(lambda: R.lookup_code(code, body, n, place), str))
+
+
+def case_judge():
+    kind = RANDOM.randint(0, 1)
+    bytes_of_plan = fill(plan(3, kind))
+    if RANDOM.random() < 0.3:
+        bytes_of_plan = damaged(bytes_of_plan)
+    kind = 2 if RANDOM.random() < 0.1 else kind
+    n = RANDOM.choice([0, 1, 5, 1024, 1025])
+    says("number (judge %d %s)" % (kind, listed(bytes_of_plan)), str(R.judge(kind, bytes_of_plan)))
+    says("worstSize %s %d" % (listed(bytes_of_plan), n), answer(lambda: R.worst(bytes_of_plan, n), str))
+
+
+def case_plan():
+    kind = RANDOM.randint(0, 1)
+    bytes_of_plan = fill(plan(2, kind))
+    if R.judge(kind, bytes_of_plan):
+        return
+    tree, n = R.parse_plan(bytes_of_plan), RANDOM.randint(0, 5)
+    body, tree_is = R.write_plan(tree, xs := numbers(kind, n)), "(planOf %s)" % listed(bytes_of_plan)
+    says("write %s %s" % (tree_is, listed(xs)), listed(body))
+    body = damaged(body)
+    says("read %s %s %d" % (tree_is, listed(body), n), answer(lambda: R.read_plan(tree, body, n), listed))
+    if n:
+        place = RANDOM.randrange(n)
+        says("look %s %s %d %d" % (tree_is, listed(body), n, place), answer(lambda: R.lookup_plan(tree, body, n, place), str))
+
+
+def orders():
+    made, joined = [], []
+    for column in range(RANDOM.randint(0, 3)):
+        kind = 1 if column == 0 and RANDOM.random() < 0.5 else RANDOM.randint(0, 1)
+        n = 2 if column < 2 and RANDOM.random() < 0.5 else RANDOM.randint(0, 3)
+        bytes_of_plan, xs = bytes(15) if RANDOM.random() < 0.3 else fill(plan(2, kind)), numbers(kind, n)
+        if column == 1 and RANDOM.random() < 0.7:
+            kind, bytes_of_plan = 0, fill([RANDOM.randint(1, 6)])
+            xs = [RANDOM.choice([0, 1, 124, 255, 256, 257]) for _ in xs]
+        if RANDOM.random() < 0.05:
+            bytes_of_plan = fill(damaged(bytes_of_plan))
+        made.append((RANDOM.randint(0, 2) if RANDOM.random() < 0.05 else kind, bytes_of_plan, n))
+        joined += xs
+    return made, joined[:-1] if RANDOM.random() < 0.05 else joined
+
+
+def case_write():
+    made, joined = orders()
+    work, room = RANDOM.choice([0, 14, 21, 100]), RANDOM.choice([0, 50, 1000])
+    kinds, plans, counts = [k for k, _, _ in made], b"".join(p for _, p, _ in made), [c for _, _, c in made]
+    says("writeApart %s %s %s %s %d %d" % (listed(kinds), listed(plans), listed(counts), listed(joined), work, room),
+         answer(lambda: R.write(made, joined, work, room), listed))
+
+
+def case_sheet():
+    try:
+        sheet = R.write(*orders(), 100, 1000)
+    except R.Refused:
+        sheet = b"\x01\x00"
+    sheet = damaged(sheet) if RANDOM.random() < 0.6 else sheet
+    work, column, place, call = RANDOM.choice([0, 14, 16, 24, 100, 100, 100]), RANDOM.randint(0, 2), RANDOM.randint(0, 3), RANDOM.randint(0, 3)
+    shown = listed(sheet)
+    says("check %s %d" % (shown, work), verdict(lambda: R.check(sheet, work), lambda _: "passed"))
+    says("readSheet %s %d %d 2" % (shown, column, work), answer(lambda: R.read(sheet, column, work, 2), listed))
+    says("lookSheet %s %d %d" % (shown, column, place), answer(lambda: R.lookup(sheet, column, place), str))
+    says("fetch %s %d" % (shown, column), answer(lambda: R.fetch(sheet, column), lambda t: listed(sheet[t[0]:t[0] + t[1]])))
+    kind, value = R.calls(sheet, column, call + 1)[call]
+    says("call %s %d %d" % (shown, column, call), "%s %d" % ("given" if kind == "number" else kind, value))
+    tally = "record { passed = %d; failed = %d; unended = %d }"
+    told = verdict(lambda: R.board(sheet, work), lambda t: "passed, " + tally % t)
+    says("countBoard %s %d" % (shown, work), "(%s)" % (told if told.startswith("passed") else told + ", " + tally % (0, 0, 0)))
+
+
+def text():
+    names = {}
+    for path in sorted(glob.glob(os.path.join(ROOT, "crates/meaning/specs/*.antt"))):
+        found = re.findall(r"^\s*unfoldable pub (\S+) :", open(path).read(), re.M)
+        if found:
+            names[os.path.basename(path)[:-5]] = found
+    lines = ["use Prim.Native.Nat.{ℕ}", "use mathlib.Core.Path.{_≡_, refl}", "use mathlib.Core.List.{List, [], _∷_}",
+             "use Rattle.meaning.specs.Answer.{given, refused, passed, blamed, number}", "use Rattle.meaning.specs.Plan.{code}"]
+    lines += ["use Rattle.meaning.specs.%s.{%s}" % (module, ", ".join(found)) for module, found in names.items()]
+    lines += ["", "unfoldable meaning : ℕ", "unfolding " + " ".join(n for found in names.values() for n in found), "meaning = 0", ""]
+    for i, (left, right) in enumerate(equations):
+        lines += ["case-%d : %s ≡ %s" % (i, left, right), "unfolding meaning", "case-%d = refl" % i, ""]
+    return "\n".join(lines)
+
+
+def main():
+    for i in range(CASES):
+        [case_code, case_judge, case_plan, case_write, case_sheet][i % 5]()
+    shutil.rmtree(PLACE, ignore_errors=True)
+    os.makedirs(os.path.join(PLACE, "crates/cases/src"))
+    os.makedirs(os.path.join(PLACE, "crates/cases/specs"))
+    shutil.copytree(os.path.join(ROOT, "crates/meaning"), os.path.join(PLACE, "crates/meaning"), ignore=shutil.ignore_patterns("must-fail"))
+    for path, content in [("crates.txt", "meaning:\ncases: meaning\n"), ("crates/cases/src/lib.rt", "// Equations alone.\n"),
+                          ("crates/cases/specs/Lib.antt", "pub mod Cases\n"), ("crates/cases/specs/Cases.antt", text())]:
+        with open(os.path.join(PLACE, path), "w") as f:
+            f.write(content)
+    run = subprocess.run(["rt", "check"], cwd=PLACE, capture_output=True, text=True)
+    said = run.stdout + run.stderr
+    differ = sorted(set(int(n) for n in re.findall(r"`case-(\d+)`", said)))
+    for n in differ[:10]:
+        print("differs: %s ≡ %s" % equations[n])
+    if run.returncode and not differ:
+        print(said[-2000:])
+    print("%d equations of the meaning, %d differ" % (len(equations), len(differ)))
+    sys.exit(1 if run.returncode else 0)
+
+
+main()

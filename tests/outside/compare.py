@@ -1,0 +1,132 @@
+"""Compares the library, called from C on slices that end at guard pages, with the reading (../reading.py).
+
+    python3 compare.py ARCHIVE [OPERATIONS [SEED]]
+
+Compares every answer, the whole output, and that nothing else changed.  Exit status 1 if any differ."""
+
+import collections
+import multiprocessing
+import os
+import struct
+import subprocess
+import sys
+import time
+sys.dont_write_bytecode = True
+HERE = os.path.dirname(os.path.abspath(__file__))
+sys.path[:0] = [HERE, os.path.dirname(HERE)]
+import draw
+import generate
+import machine
+import reading as r
+
+NAMES = ("judge", "worst", "write", "check", "read", "lookup", "fetch", "board")
+REQUEST, RESULT = struct.Struct("<IIQQII4I"), struct.Struct("<II4QQ")
+TROUBLE = {1: "an input changed", 2: "bytes before a slice changed", 4: "stopped by a signal (its number)"}
+CHUNK, SHOWN = 1000, 5
+
+Result = collections.namedtuple("Result", "number trouble answers out")
+
+
+def answered(op):
+    """The answers and the output's front of an accepted operation, by the reading; else it refuses."""
+    first, a, b = op.inputs[0], op.a, op.b
+    if op.what == "judge":
+        number = r.judge(a, first)
+        if number:
+            raise r.Refused(number)
+        return (), b""
+    if op.what == "worst":
+        return (r.worst(first, a),), b""
+    if op.what == "write":
+        kinds, plans, counts, joined = first, op.inputs[1], *map(numbers_of, op.inputs[2:])
+        if len(plans) != 15 * len(kinds) or len(counts) != len(kinds):
+            raise r.Refused(11)
+        orders = [(kind, plans[15 * i:15 * i + 15], counts[i]) for i, kind in enumerate(kinds)]
+        sheet = r.write(orders, joined, op.work, op.out)
+        return (len(sheet),), sheet
+    if op.what == "check":
+        r.check(first, op.work)
+        return (0,), b""
+    if op.what == "read":
+        numbers = r.read(first, a, op.work, op.out // 4)
+        return (len(numbers),), draw.words(numbers)
+    if op.what == "lookup":
+        return (r.lookup(first, a, b),), b""
+    if op.what == "fetch":
+        return r.fetch(first, a), b""
+    return (0,) + r.board(first, op.work), b""
+
+
+def expected(op):
+    try:
+        number, (answers, front) = 0, answered(op)
+    except r.Refused as e:
+        number, answers, front = e.number, (e.column if op.what in ("check", "board") else 0,), b""
+    answers = (answers + (0, 0, 0, 0))[:4]
+    return Result(number, 0, answers, front + bytes([op.fill]) * (op.out - len(front)))
+
+
+def numbers_of(words):
+    return list(struct.unpack("<%dI" % (len(words) // 4), words))
+
+
+def asked(driver, operations):
+    """What the library answers."""
+    frames = [REQUEST.pack(NAMES.index(op.what), op.fill, op.a, op.b, op.work, op.out, *map(len, op.inputs))
+              + b"".join(op.inputs) for op in operations]
+    done = subprocess.run(driver, input=b"".join(frames), stdout=subprocess.PIPE)
+    results, at = [], 0
+    while at < len(done.stdout):
+        number, trouble, *answers, out = RESULT.unpack_from(done.stdout, at)
+        at += RESULT.size + out
+        results.append(Result(number, trouble, tuple(answers), done.stdout[at - out:at]))
+    if done.returncode != 0 or len(results) != len(operations):
+        sys.exit("the driver ended with %d after %d operations" % (done.returncode, len(results)))
+    return results
+
+
+def described(op, got, wanted):
+    lines = ["%s %s: a %d b %d work %d out %d" % (op.what, " ".join(part.hex() or "-" for part in op.inputs)[:600],
+                                                  op.a, op.b, op.work, op.out)]
+    for who, result in (("library", got), ("reading", wanted)):
+        trouble = [what for bit, what in TROUBLE.items() if result.trouble & bit]
+        lines.append("  %s: %d %s %s" % (who, result.number, result.answers, ", ".join(trouble)))
+    places = [i for i, (x, y) in enumerate(zip(got.out, wanted.out)) if x != y]
+    if places:
+        lines.append("  output differs in %d bytes from %d on: library %s, reading %s" % (
+            len(places), places[0], got.out[places[0]:][:16].hex(), wanted.out[places[0]:][:16].hex()))
+    return "\n".join(lines)
+
+
+def chunk(task):
+    """Compares one chunk: how often each operation met each number, how many differ, the first of them."""
+    driver, seed, many = task
+    operations = generate.operations(seed, many)
+    wanted = [expected(op) for op in operations]
+    met = collections.Counter((op.what, result.number) for op, result in zip(operations, wanted))
+    differ = [described(op, got, want) for op, got, want in zip(operations, asked(driver, operations), wanted)
+              if got != want]
+    return met, len(differ), differ[:SHOWN]
+
+
+def main(archive, many=200000, seed=1):
+    began, driver = time.time(), machine.build("driver", os.path.join(HERE, "driver.c"), archive)
+    tasks = [(driver, "%d %d" % (seed, first), min(CHUNK, many - first)) for first in range(0, many, CHUNK)]
+    met, differ, shown = collections.Counter(), 0, []
+    with multiprocessing.Pool(2) as pool:
+        for part, more, lines in pool.imap(chunk, tasks):
+            met += part
+            differ += more
+            shown += lines
+    for name in NAMES:
+        numbers = sorted(number for what, number in met if what == name)
+        print("%-6s %7d: %s" % (name, sum(met[name, number] for number in numbers),
+                                ", ".join("%d x %d" % (met[name, number], number) for number in numbers)))
+    for lines in shown[:SHOWN]:
+        print(lines)
+    print("%d operations, %d differ (%d seconds)" % (sum(met.values()), differ, time.time() - began))
+    return 1 if differ else 0
+
+
+if __name__ == "__main__":
+    sys.exit(main(sys.argv[1], *map(int, sys.argv[2:])))

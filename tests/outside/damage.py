@@ -1,0 +1,199 @@
+"""Damage for the tests from outside: bodies with a rule broken on purpose, and sheets changed in their bytes."""
+
+from itertools import groupby
+
+import reading as r
+from draw import MAX, bad_plan, chance, number, rnd, word
+
+# ------------------------------------------------------------ bodies with one rule broken
+
+
+def loose_vbyte(some):
+    units = [bytearray(r.write_vbyte(x)) for x in some]
+    at = rnd.randrange(len(units))
+    if chance(50):
+        units[at][-1] |= 128
+        units[at] += rnd.choice((b"\0", b"\0\0", b"\1", b"\x80"))
+    else:
+        units[at] = bytearray(rnd.choice((bytes(4 * [rnd.choice((128, 255))]) + bytes([rnd.randrange(256)]),
+                                          bytes([128, 128, 0]), bytes(5 * [128] + [1]), b"\x80")))
+    return b"".join(units)
+
+
+def loose_groups(code, some):
+    controls, data, at = [], [], rnd.randrange(len(some))
+    for first in range(0, len(some), 4):
+        control, part = 0, b""
+        for i, x in enumerate(some[first:first + 4]):
+            length = r.fewest(x)
+            if first + i == at and length < 4 and chance(70):
+                length = rnd.randint(length + 1, 4)
+            control += (length - 1) << (2 * i)
+            part += x.to_bytes(length, "little")
+        controls.append(control)
+        data.append(part)
+    if len(some) % 4 and chance(50):
+        controls[-1] |= rnd.randint(1, 3) << (2 * rnd.randint(len(some) % 4, 3))
+        data[-1] += bytes(rnd.choice((0, 0, 1, 2)))
+    units = [bytes([c]) for c in controls]
+    return b"".join(units + data if code == r.STREAM else [u + d for u, d in zip(units, data)])
+
+
+def blocks_of(some):
+    """G8IU's blocks, each a list of (number, length)."""
+    blocks = []
+    for x in some:
+        length = r.fewest(x)
+        if not blocks or sum(length for _, length in blocks[-1]) + length > 8:
+            blocks.append([])
+        blocks[-1].append((x, length))
+    return blocks
+
+
+def loose_g8iu(some):
+    blocks, way, out = blocks_of(some), rnd.randrange(6), b""
+    at = rnd.randrange(len(blocks))
+    if way <= 1 and len(blocks[at]) > 1:                        # a number left out that would fit
+        before = sum(map(len, blocks[:at + 1])) - 1
+        blocks[at:] = [blocks[at][:-1]] + blocks_of(some[before:])
+    elif way == 2:
+        i = rnd.randrange(len(blocks[at]))
+        blocks[at][i] = blocks[at][i][0], blocks[at][i][1] + 1  # longer than needed
+    elif way == 3:
+        blocks.insert(at, rnd.choice(([], [(0, 5)], [(0, 1)])))
+    for i, block in enumerate(blocks):
+        control, data = 255, b""
+        for x, length in block:
+            data += x.to_bytes(length, "little")
+            control &= ~(1 << (len(data) - 1))
+        waste = bytearray(max(0, 8 - len(data)))
+        if i == at and waste and way == 4:
+            waste[rnd.randrange(len(waste))] = 1
+        elif i == at and waste and way == 5:
+            control &= ~(1 << rnd.randrange(len(data), 8))      # one number more
+        out += bytes([control & 255]) + data[:8] + waste
+    return out
+
+
+def loose_elias(code, some):
+    write = r.gamma_bits if code == r.GAMMA else r.delta_bits
+    words_, at = [write(x + 1) for x in some], rnd.randrange(len(some))
+    way = rnd.randrange(4)
+    if way == 0:
+        words_[at] = write(rnd.choice((2**32, 2**32 + 1, 2**33 - 1, 2**33, 2**34)))
+    elif way == 1:
+        words_[at] = "0" * rnd.choice((4, 5, 6, 31, 32, 33, 64)) + format(rnd.randrange(1, 2**34), "b")
+    elif way == 2:
+        words_[-1] += rnd.choice(("1", "01", "00000001", 8 * "0"))
+    else:
+        words_[at] = words_[at][:rnd.randrange(len(words_[at]))]
+    return r.pack("".join(words_))
+
+
+def loose_runs(t, some):
+    runs = [(x, len(list(equals))) for x, equals in groupby(some)]
+    way = rnd.randrange(6)
+    if runs and way == 0:                                   # not maximal
+        at = rnd.randrange(len(runs))
+        x, length = runs[at]
+        part = rnd.randrange(length)
+        runs[at:at + 1] = [(x, part), (x, length - part)] if part else [(x, 0), (x, length)]
+    elif runs and way == 1:                                 # another sum
+        at = rnd.choice((-1, rnd.randrange(len(runs))))
+        runs[at] = runs[at][0], min(MAX, max(0, runs[at][1] + rnd.choice((-1, 1, 2000, MAX))))
+    elif way == 2:
+        at = rnd.randint(0, len(runs))
+        runs.insert(at, (runs[at - 1][0] if at else 0, rnd.randrange(2)))
+    elif runs and way == 3:
+        del runs[rnd.randrange(len(runs))]
+    values, lengths = [x for x, _ in runs], [length for _, length in runs]
+    inner = t[1:] if way < 4 else rnd.choice(((None, t[2]), (t[1], None)))
+    values_body = r.write_plan(t[1], values) if inner[0] else loosely(t[1], values)
+    lengths_body = r.write_plan(t[2], lengths) if inner[1] else loosely(t[2], lengths)
+    told, size = len(runs), len(values_body)
+    if way == 4 and chance(60):
+        told = max(0, rnd.choice((told - 1, told + 1, 2**31, MAX)))
+    if way == 5 and chance(60):
+        size = max(0, rnd.choice((size - 1, size + 1, size + len(lengths_body), MAX, MAX - 7, size + 2**31)))
+    return r.u32(told) + r.u32(size) + values_body + lengths_body
+
+
+def loosely(t, some):
+    """The body of a list by a plan, with a rule broken somewhere, where the way chosen applies."""
+    if t[0] == r.REFERENCE:
+        least = min(some, default=0)
+        if chance(30):
+            least = rnd.choice((least - 1, least // 2, 0))
+        if chance(15):
+            return r.u32(rnd.choice((MAX, MAX - 1, 1))) + r.write_plan(t[1], some)
+        least = max(0, least)
+        return r.u32(least) + loosely(t[1], [x - least for x in some])
+    if t[0] == r.DIFFERENCES:
+        if chance(30):
+            return r.write_plan(t[1], some)                 # sums above 2^32 - 1
+        return loosely(t[1], [x - before for before, x in zip([0] + some, some)])
+    if t[0] == r.RUNS:
+        return loose_runs(t, some)
+    if not some:
+        return rnd.choice((b"", b"\0", b"\1"))
+    if t[0] == r.VBYTE:
+        return loose_vbyte(some)
+    if t[0] in (r.GROUPS, r.STREAM):
+        return loose_groups(t[0], some)
+    return loose_g8iu(some) if t[0] == r.G8IU else loose_elias(t[0], some)
+
+# ------------------------------------------------------------ bytes changed
+
+
+def damaged_body(t, some, body):
+    way = rnd.randrange(10)
+    if way < 5 or not body:
+        return loosely(t, some)
+    at, changed = rnd.randrange(len(body)), bytearray(body)
+    if way == 5:
+        changed[at] ^= 1 << rnd.randrange(8)
+    elif way == 6:
+        changed[at] = rnd.choice((0, 1, 127, 128, 255))
+    elif way == 7:
+        del changed[-rnd.randint(1, 3):]
+    elif way == 8:
+        changed += rnd.choice((b"\0", b"\1", bytes(9)))
+    else:
+        del changed[at]
+    return bytes(changed)
+
+
+def damaged_table(sheet):
+    """Damage to a whole sheet of 2 bytes or more, mostly in its table."""
+    changed, way = bytearray(sheet), rnd.randrange(16)
+    entries = min(changed[1], (len(changed) - 2) // 24)
+    entry = 2 + 24 * rnd.randrange(entries) if entries else 0
+    if way == 0:
+        changed[0] = rnd.choice((0, 2, 255))
+    elif way == 1:
+        changed[1] = max(0, min(255, rnd.choice((changed[1] - 1, changed[1] + 1, 16, 17, 255))))
+    elif way == 2:
+        del changed[rnd.randrange(len(changed)):]
+    elif way == 3:
+        changed += bytes(rnd.choice((1, 2, 24, 65536 - min(65536, len(changed)), 65537)))
+    elif way == 4:
+        changed[rnd.randrange(len(changed))] ^= 1 << rnd.randrange(8)
+    elif entry and way == 5:
+        changed[entry] = rnd.choice((0, 1, 2, 255))
+    elif entry and way <= 10:
+        for at in range(entry, 2 + 24 * entries if way <= 8 else entry + 1, 24):
+            changed[at + 1:at + 16] = bad_plan()
+    elif entry and way <= 12:
+        n = int.from_bytes(changed[entry + 16:entry + 20], "little")
+        changed[entry + 16:entry + 20] = word(rnd.choice((n - 1, n + 1, 0, 1024, 1025, n + 65536, n + 2**31)))
+    elif entry and way == 13:
+        length = int.from_bytes(changed[entry + 20:entry + 24], "little")
+        changed[entry + 20:entry + 24] = word(rnd.choice((length - 1, length + 1, length + 65536, MAX)))
+    elif entries > 1 and way == 14:                         # a byte moved between bodies, or a sum that wraps
+        first, move = 2 + 24 * rnd.randrange(entries - 1), rnd.choice((1, 1, 2**31))
+        for at, sign in ((first, 1), (first + 24, 1 if move > 1 else -1)):
+            length = int.from_bytes(changed[at + 20:at + 24], "little")
+            changed[at + 20:at + 24] = word(length + sign * move)
+    else:
+        changed = bytearray(rnd.choice((1, 1, 0, 2, rnd.randrange(256))) for _ in range(rnd.randrange(60)))
+    return bytes(changed)

@@ -1,0 +1,92 @@
+"""Random numbers, lists and plans for the tests from outside, all from one seeded source."""
+
+import random
+
+import reading as r
+
+rnd = random.Random()
+MAX = r.MOST_NUMBER
+
+
+def chance(percent):
+    return rnd.random() * 100 < percent
+
+
+def near(exact):
+    """A length: mostly enough, often exact, often one short."""
+    return max(0, exact + rnd.choice((0, 0, 0, 0, 0, 0, 0, 1, 2, 9, -1, -1, -exact)))
+
+
+def word(x):
+    return r.u32(x % 2**32)
+
+
+def words(numbers):
+    return b"".join(map(r.u32, numbers))
+
+
+def number():
+    """Of any length, often at an edge of one."""
+    top = 2**rnd.choice((1, 3, 7, 8, 14, 16, 21, 24, 28, 31, 32))
+    return rnd.choice((rnd.randrange(top), max(0, top - 1 - rnd.randrange(3)), min(MAX, top + rnd.randrange(3))))
+
+
+def numbers(kind, n):
+    shape = rnd.randrange(6)
+    if shape == 0:
+        found = [rnd.randrange(200) for _ in range(n)]
+    elif shape == 1:
+        found = [number() for _ in range(n)]
+    elif shape == 2:
+        found = [rnd.choice((rnd.randrange(2**32), MAX)) for _ in range(n)]
+    elif shape == 3:
+        found = []
+        while len(found) < n:
+            found += rnd.randint(1, 9) * [number()]
+        found = found[:n]
+    elif shape == 4:
+        base = rnd.choice((1000, 2**31, MAX - 500))
+        found = [base + rnd.randrange(500) for _ in range(n)]
+    else:
+        found = n * [number()]
+    return sorted(found) if kind == 1 else found
+
+
+def tree(kind, depth=4, judged=True):
+    """A plan that passes for the kind, or that may not."""
+    stage = rnd.choice((0, 16, 17, 18, 18) if depth < 4 else (0, 0, 0, 16, 17, 18)) if depth > 1 else 0
+    if stage == 16:
+        return stage, tree(kind, depth - 1, judged)
+    if stage == 17 and (kind == 1 or not judged):
+        return stage, tree(0, depth - 1, judged)
+    if stage == 18:
+        return stage, tree(kind, depth - 1, judged), tree(0, depth - 1, judged)
+    return rnd.choice(r.CODES),
+
+
+def text(t):
+    """A plan's prefix text, not filled."""
+    return bytes([t[0]]) + b"".join(map(text, t[1:]))
+
+
+def filled(some):
+    return (some + bytes(15))[:15]
+
+
+def bad_plan():
+    """Mostly malformed or not passed."""
+    if chance(40):
+        return filled(text((17, tree(0, 3, False)) if chance(40) else tree(0, 4, False)))
+    some = bytearray(text(tree(rnd.randrange(2))))
+    for _ in range(rnd.choice((0, 1, 1, 2))):
+        some[rnd.randrange(len(some))] = rnd.choice((0, 1, 6, 7, 15, 16, 17, 18, 19, 128, 255))
+    if chance(20):
+        some = bytes(rnd.choice((1, 3, 16, 17, 18)) for _ in range(rnd.randint(1, 15)))
+    some = bytearray(filled(bytes(some)))
+    if chance(15):
+        some[rnd.randrange(15)] = rnd.choice((0, 1, 255))
+    return bytes(some)
+
+
+def count():
+    return rnd.choice((0, 1, 2, 3, 4, 5, 7, 8, 9, rnd.randrange(16), rnd.randrange(16), rnd.randrange(40)))

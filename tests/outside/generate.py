@@ -1,0 +1,180 @@
+"""Random operations for compare.py: plans, orders and sheets, good ones, broken ones and damaged ones, with lengths
+around their exact boundaries.  The reading (../reading.py) writes the good bodies and judges nothing here."""
+
+from collections import namedtuple
+
+import reading as r
+from damage import damaged_body, damaged_table, loosely
+from draw import MAX, bad_plan, chance, count, filled, near, numbers, rnd, text, tree, words
+
+# inputs: four `bytes`; a, b: kind, n, column, place; work counts numbers, out bytes; fill: what they hold before.
+Operation = namedtuple("Operation", "what inputs a b work out fill")
+HUGE = (2**31, 2**32, 2**63, 2**64 - 1, 2**64 // 24 + 1, 2**62 + 1)
+
+
+def operation(what, inputs, a=0, b=0, work=0, out=0):
+    return Operation(what, (tuple(inputs) + 4 * (b"",))[:4], a, b, work, out, rnd.randint(1, 255))
+
+# ------------------------------------------------------------ sheets
+
+
+
+def assemble(columns):
+    """A sheet as it stands: columns (kind, plan15, count, body)."""
+    table = b"".join(bytes([kind]) + plan + r.u32(n) + r.u32(len(body)) for kind, plan, n, body in columns)
+    return bytes([1, len(columns)]) + table + b"".join(column[3] for column in columns)
+
+
+def lists():
+    """The columns of a sheet: (kind, tree, list).  Few, short and any, a board, or at the limits."""
+    size = rnd.random()
+    if size < 0.012:                                        # about 65,536 bytes
+        more = 65536 - 2 - 24 * 15 - 15360 + rnd.choice((0, 0, 1, -1, -500))
+        joined = more // 4 * [MAX] + more % 4 * [128]
+        joined += (15360 - len(joined)) * [0]
+        rnd.shuffle(joined)
+        return [(0, (1,), joined[1024 * i:1024 * i + 1024]) for i in range(15)]
+    if size < 0.014:
+        return [(kind, tree(kind, 2), numbers(kind, 1024)) for kind in [rnd.randrange(2) for _ in range(16)]]
+    if size < 0.03:
+        kinds = [rnd.randrange(2) for _ in range(rnd.choice((15, 16, 16)))]
+        return [(kind, tree(kind), numbers(kind, rnd.randrange(12))) for kind in kinds]
+    if size < 0.06:
+        kind = rnd.randrange(2)
+        return [(kind, tree(kind), numbers(kind, rnd.choice((1024, 1023, 1021, rnd.randrange(500, 1024)))))]
+    if size < 0.2:
+        n = count()
+        kinds = [0 if chance(5) else 1, rnd.randrange(2)] + [rnd.randrange(2) for _ in range(rnd.choice((0, 0, 1)))]
+        jobs = sorted(rnd.sample(range(rnd.choice((100, 2**31))), n))
+        if n > 1 and chance(10):
+            jobs[-1] = jobs[-2]
+        endings = [rnd.choice((0, 0, 0, 1, 124, 255, 256)) for _ in range(max(0, n - chance(5)))]
+        if endings and chance(10):
+            endings[rnd.randrange(len(endings))] = rnd.choice((257, 512, MAX))
+        contents = [jobs, sorted(endings) if kinds[1] else endings] + [numbers(kind, count()) for kind in kinds[2:]]
+        return [(kind, tree(kind), some) for kind, some in zip(kinds, contents)]
+    kinds = [rnd.randrange(2) for _ in range(rnd.choice((0, 1, 1, 1, 1, 1, 2, 2, 2, 3, 4)))]
+    return [(kind, tree(kind), numbers(kind, count())) for kind in kinds]
+
+
+def sheet():
+    columns, way = lists(), rnd.randrange(100)
+    bodies = [r.write_plan(t, some) for _, t, some in columns]
+    if columns and way < 45:
+        for at in rnd.sample(range(len(columns)), min(len(columns), rnd.choice((1, 1, 1, 2)))):
+            bodies[at] = damaged_body(*columns[at][1:], bodies[at])
+    made = assemble([(kind, filled(text(t)), len(some), body) for (kind, t, some), body in zip(columns, bodies)])
+    counts = [len(some) for _, _, some in columns]
+    if way >= 75:
+        for _ in range(rnd.choice((1, 1, 2))):
+            made = damaged_table(made) if len(made) > 1 else made
+    return made, counts, way >= 75
+
+# ------------------------------------------------------------ operations
+
+
+def column_of(counts):
+    if counts and chance(90):
+        return rnd.randrange(len(counts))
+    return rnd.choice((len(counts), len(counts) + 1, 16, 256, 2**32 + rnd.randrange(3)) + HUGE)
+
+
+def place_of(n):
+    if n and chance(85):
+        return rnd.choice((rnd.randrange(n), rnd.randrange(n), n - 1))
+    return rnd.choice((n, n + 1, 1024, 2**32 + rnd.randrange(3)) + HUGE)
+
+
+def on_a_sheet():
+    made, counts, table_damaged = sheet()
+    largest = max(counts, default=0)
+    often = 1 <= len(counts) <= 4 and sum(counts) <= 200 and not table_damaged
+    yield operation("check", [made], work=near(8 * largest))
+    for _ in range(2 if len(counts) > 1 and counts[0] == counts[1] else chance(15)):
+        yield operation("board", [made], work=near(8 * largest))
+    for _ in range(5 if often else 1):
+        column = column_of(counts)
+        n = counts[column] if column < len(counts) else 3
+        yield operation("read", [made], column, work=near(7 * n), out=4 * near(n))
+        for _ in range(3 if often else 2):
+            yield operation("lookup", [made], column, place_of(n))
+    yield operation("fetch", [made], column_of(counts))
+
+
+def on_a_body():
+    """One column of a small plan with a rule broken, and all the room it needs."""
+    kind = rnd.randrange(2)
+    t = tree(kind, rnd.choice((1, 1, 2, 3, 3)))
+    some = numbers(kind, rnd.randint(1, 24))
+    if t[0] == r.G8IU and chance(50):
+        some = [x % 2**rnd.choice((8, 8, 16)) for x in some]
+        kind = 0
+    made = assemble([(kind, filled(text(t)), len(some), loosely(t, some))])
+    yield operation("check", [made], work=8 * len(some))
+    yield operation("read", [made], 0, work=7 * len(some), out=4 * len(some))
+    yield operation("lookup", [made], 0, len(some) - 1)
+    yield operation("lookup", [made], 0, rnd.randrange(len(some)))
+
+
+def broken(orders):
+    """One thing about the orders made wrong."""
+    at, way = rnd.randrange(len(orders)), rnd.randrange(7)
+    kind, plan, n, some = orders[at]
+    if way == 0:
+        kind = rnd.choice((2, 255))
+    elif way == 1:
+        n = rnd.choice((n + 1, max(0, n - 1), 1025, MAX, n + 2**31)) % 2**32
+    elif way <= 3:
+        plan = bad_plan()
+    elif way <= 5:
+        kind = 1 if plan == bytes(15) or r.judge(1, plan) == 0 else kind
+        some = rnd.choice((some[::-1], some[-1:] + some[:-1], some[1:] + some[:1]))
+    elif chance(10):
+        n, some = 1025, 1025 * [7]
+    orders[at] = kind, plan, n, some
+
+
+def writing():
+    orders = [(kind, bytes(15) if chance(15) else filled(text(t)), len(some), some) for kind, t, some in lists()]
+    good = r.write([order[:3] for order in orders], [x for order in orders for x in order[3]], 8192, 70000) \
+        if sum(order[2] for order in orders) < 15000 else bytes(65536)
+    for _ in range(4 if len(good) < 4000 else 1):
+        some = list(orders)
+        if chance(2):
+            some += (17 - len(some)) * [(0, bytes(15), 0, [])]
+        for _ in range(rnd.choice((0, 0, 0, 1, 1, 2))):
+            if some:
+                broken(some)
+        kinds, plans = bytes(order[0] for order in some), b"".join(order[1] for order in some)
+        counts, joined = [order[2] for order in some], [x for order in some for x in order[3]]
+        if chance(3):
+            kinds = rnd.choice((kinds[:-1], kinds + b"\0"))
+        if chance(3):
+            plans = rnd.choice((plans[:-1], plans + b"\0", plans[:-15], plans + bytes(15)))
+        if chance(3):
+            counts = rnd.choice((counts[:-1], counts + [0]))
+        if chance(3):
+            joined = rnd.choice((joined[:-1], joined + [0]))
+        largest = max((len(order[3]) for order in orders), default=0)
+        yield operation("write", [kinds, plans, words(counts), words(joined)], work=near(7 * largest),
+                        out=near(len(good)))
+
+
+def judging():
+    for _ in range(4):
+        kind = rnd.randrange(2)
+        plan = filled(text(tree(kind))) if chance(30) else bad_plan()
+        if chance(5):
+            plan = rnd.choice((plan[:-1], plan + b"\0", b"", plan[:1]))
+        yield operation("judge", [plan], rnd.choice((kind, 1, 0, 1 - kind, 0, 1, rnd.randint(2, 255))))
+        n = rnd.choice((0, 1, 5, 1023, 1024, 1025, rnd.randrange(1200), rnd.choice(HUGE)))
+        yield operation("worst", [plan], n)
+
+
+def operations(seed, many):
+    """So many operations, the same for the same seed."""
+    rnd.seed(seed)
+    made = []
+    while len(made) < many:
+        made += rnd.choice((on_a_sheet, on_a_sheet, on_a_body, on_a_body, on_a_body, writing, judging))()
+    return made[:many]
