@@ -1,4 +1,5 @@
-// A plugin for qemu's user emulation that counts a program's instructions and prints the total at its end:
+// A plugin for qemu's user emulation that counts a program's instructions and prints the total at its end (after the
+// house's tools/insn.c):
 //     gcc -shared -fPIC count.c -o libcount.so; qemu-x86_64 -plugin ./libcount.so PROGRAM
 // The declarations are those of QEMU's plugin interface (qemu-plugin.h), as far as they are used: written out here,
 // since not every qemu brings the header.  A qemu takes plugins of some versions only; Debian 12's is 1.

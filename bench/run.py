@@ -28,7 +28,7 @@ def count(command):
     done = subprocess.run(command, stderr=subprocess.PIPE, text=True)
     found = re.search(r"instructions (\d+)", done.stderr)
     if done.returncode != 0 or not found:
-        sys.exit("%s: %d %s" % (" ".join(command), done.returncode, done.stderr))
+        raise RuntimeError("%s: %d %s" % (" ".join(command), done.returncode, done.stderr))
     return int(found.group(1))
 
 
@@ -36,7 +36,7 @@ def plugin(program):
     """The counter, of the interface version that this qemu takes."""
     for version in (1, 2, 3, 4):
         library = os.path.join(machine.MADE, "libcount.so")
-        machine.run("gcc", "-O2", "-shared", "-fPIC", "-DVERSION=%d" % version, os.path.join(HERE, "count.c"), "-o", library)
+        machine.run("gcc", "-O2", "-shared", "-fPIC", "-DVERSION=%d" % version, HERE + "/count.c", "-o", library)
         command = ["qemu-x86_64", "-plugin", library]
         if b"instructions" in subprocess.run(command + [program], stderr=subprocess.PIPE).stderr:
             return command
@@ -46,7 +46,7 @@ def plugin(program):
 def measure(archive):
     """{(engine, operation, place, width, plan): instructions of one call}"""
     machine.install()
-    sources = [os.path.join(HERE, name) for name in ("bench.c", "plain.c", "plain_codes.c", "plain_plans.c", "plain_write.c")]
+    sources = [os.path.join(HERE, name + ".c") for name in ("bench", "plain", "plain_codes", "plain_plans", "plain_write")]
     program = machine.build("bench", *sources, archive, *machine.stream_flags())[-1]
     command = plugin(program) + [program]
     cases = [(engine, operation, place, width, plan)
@@ -95,8 +95,8 @@ def main(archive):
     compiler = subprocess.run([machine.CC[0], "--version"], stdout=subprocess.PIPE, text=True).stdout.split("\n")[0]
     print("## Instructions a number, of %d\n\nPlain C by %s -O2.\n" % (NUMBERS, compiler))
     print("Numbers: small are below 100, mixed of 1 to 32 bits with each length as often, wide uniform in 32 bits; with 17 "
-          "these are the steps (up to 21 bits), with 18 the values of runs of 1 to 16, with 16 (up to 31 bits) 1,000,000,000 "
-          "is added.\n")
+          "these are the steps (up to 21 bits), with 18 the values of runs of 1 to 16, with 16 (up to 31 bits) "
+          "1,000,000,000 is added.\n")
     for operation in ("read", "write"):
         print("### %s\n" % operation.capitalize())
         table(("plan", "", "numbers", "library", "plain C", "ratio", "libstreamvbyte"),
@@ -111,4 +111,4 @@ def main(archive):
 
 
 if __name__ == "__main__":
-    main(os.path.abspath(sys.argv[1]) if len(sys.argv) > 1 else os.path.join(machine.ROOT, "target", "staticlib", "libcapi.a"))
+    main(sys.argv[1] if len(sys.argv) > 1 else os.path.join(machine.ROOT, "target", "staticlib", "libcapi.a"))

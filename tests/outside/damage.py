@@ -3,7 +3,7 @@
 from itertools import groupby
 
 import reading as r
-from draw import MAX, bad_plan, chance, number, rnd, word
+from draw import MAX, bad_plan, chance, rnd, word
 
 # ------------------------------------------------------------ bodies with one rule broken
 
@@ -15,8 +15,9 @@ def loose_vbyte(some):
         units[at][-1] |= 128
         units[at] += rnd.choice((b"\0", b"\0\0", b"\1", b"\x80"))
     else:
-        units[at] = bytearray(rnd.choice((bytes(4 * [rnd.choice((128, 255))]) + bytes([rnd.randrange(256)]),
-                                          bytes([128, 128, 0]), bytes(5 * [128] + [1]), b"\x80")))
+        fifth = rnd.choice((0, 1, 15, 16, 31, 127, 128))
+        units[at] = bytearray(rnd.choice((bytes(4 * [rnd.choice((128, 255))] + [fifth]), bytes([128, 128, 0]),
+                                          bytes(5 * [128] + [1]), b"\x80")))
     return b"".join(units)
 
 
@@ -122,12 +123,11 @@ def loosely(t, some):
     """The body of a list by a plan, with a rule broken somewhere, where the way chosen applies."""
     if t[0] == r.REFERENCE:
         least = min(some, default=0)
-        if chance(30):
-            least = rnd.choice((least - 1, least // 2, 0))
-        if chance(15):
-            return r.u32(rnd.choice((MAX, MAX - 1, 1))) + r.write_plan(t[1], some)
-        least = max(0, least)
-        return r.u32(least) + loosely(t[1], [x - least for x in some])
+        if chance(15):                                      # sums above 2^32 - 1
+            return r.u32(rnd.choice((MAX, MAX - 1, 2**31))) + r.write_plan(t[1], [x - least for x in some])
+        if chance(30):                                      # not the least
+            least = rnd.choice((max(0, least - 1), least // 2, 0))
+        return r.u32(least) + (r.write_plan if chance(20) else loosely)(t[1], [x - least for x in some])
     if t[0] == r.DIFFERENCES:
         if chance(30):
             return r.write_plan(t[1], some)                 # sums above 2^32 - 1

@@ -75,8 +75,10 @@ def filled(some):
 
 def bad_plan():
     """Mostly malformed or not passed."""
+    if chance(7):
+        return bytes(15)
     if chance(40):
-        return filled(text((17, tree(0, 3, False)) if chance(40) else tree(0, 4, False)))
+        return filled(text((17, tree(0, 3, False)) if chance(40) else tree(0, rnd.choice((4, 5)), False)))
     some = bytearray(text(tree(rnd.randrange(2))))
     for _ in range(rnd.choice((0, 1, 1, 2))):
         some[rnd.randrange(len(some))] = rnd.choice((0, 1, 6, 7, 15, 16, 17, 18, 19, 128, 255))

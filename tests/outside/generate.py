@@ -18,18 +18,32 @@ def operation(what, inputs, a=0, b=0, work=0, out=0):
 # ------------------------------------------------------------ sheets
 
 
-
 def assemble(columns):
     """A sheet as it stands: columns (kind, plan15, count, body)."""
     table = b"".join(bytes([kind]) + plan + r.u32(n) + r.u32(len(body)) for kind, plan, n, body in columns)
     return bytes([1, len(columns)]) + table + b"".join(column[3] for column in columns)
 
 
+def board_lists():
+    """Columns of a board that mostly keeps its rules."""
+    n = count()
+    kinds = [0 if chance(8) else 1, rnd.randrange(2)] + rnd.choice((0, 0, 1)) * [rnd.randrange(2)]
+    jobs = sorted(rnd.sample(range(rnd.choice((100, 2**31))), n))
+    if n > 1 and chance(8):
+        at = rnd.randrange(1, n)
+        jobs[at] = jobs[at - 1]
+    endings = [rnd.choice((0, 0, 0, 1, 124, 255, 256)) for _ in range(max(0, n - rnd.choice((1, -1)) * chance(8)))]
+    if endings and chance(8):
+        endings[rnd.randrange(len(endings))] = rnd.choice((257, 512, MAX))
+    contents = [jobs, sorted(endings) if kinds[1] else endings] + [numbers(kind, count()) for kind in kinds[2:]]
+    return [(kind, tree(kind), some) for kind, some in zip(kinds, contents)]
+
+
 def lists():
     """The columns of a sheet: (kind, tree, list).  Few, short and any, a board, or at the limits."""
     size = rnd.random()
     if size < 0.012:                                        # about 65,536 bytes
-        more = 65536 - 2 - 24 * 15 - 15360 + rnd.choice((0, 0, 1, -1, -500))
+        more = 65536 - 2 - 24 * 15 - 15360 + rnd.choice((0, 0, 1, 1, 24, -1))
         joined = more // 4 * [MAX] + more % 4 * [128]
         joined += (15360 - len(joined)) * [0]
         rnd.shuffle(joined)
@@ -42,17 +56,8 @@ def lists():
     if size < 0.06:
         kind = rnd.randrange(2)
         return [(kind, tree(kind), numbers(kind, rnd.choice((1024, 1023, 1021, rnd.randrange(500, 1024)))))]
-    if size < 0.2:
-        n = count()
-        kinds = [0 if chance(5) else 1, rnd.randrange(2)] + [rnd.randrange(2) for _ in range(rnd.choice((0, 0, 1)))]
-        jobs = sorted(rnd.sample(range(rnd.choice((100, 2**31))), n))
-        if n > 1 and chance(10):
-            jobs[-1] = jobs[-2]
-        endings = [rnd.choice((0, 0, 0, 1, 124, 255, 256)) for _ in range(max(0, n - chance(5)))]
-        if endings and chance(10):
-            endings[rnd.randrange(len(endings))] = rnd.choice((257, 512, MAX))
-        contents = [jobs, sorted(endings) if kinds[1] else endings] + [numbers(kind, count()) for kind in kinds[2:]]
-        return [(kind, tree(kind), some) for kind, some in zip(kinds, contents)]
+    if size < 0.12:
+        return board_lists()
     kinds = [rnd.randrange(2) for _ in range(rnd.choice((0, 1, 1, 1, 1, 1, 2, 2, 2, 3, 4)))]
     return [(kind, tree(kind), numbers(kind, count())) for kind in kinds]
 
@@ -85,12 +90,18 @@ def place_of(n):
     return rnd.choice((n, n + 1, 1024, 2**32 + rnd.randrange(3)) + HUGE)
 
 
+def on_a_board():
+    columns = board_lists()[:1 if chance(3) else 3]
+    made = assemble([(kind, filled(text(t)), len(some), r.write_plan(t, some)) for kind, t, some in columns])
+    yield operation("board", [made], work=near(8 * max(len(some) for _, _, some in columns)))
+
+
 def on_a_sheet():
     made, counts, table_damaged = sheet()
     largest = max(counts, default=0)
     often = 1 <= len(counts) <= 4 and sum(counts) <= 200 and not table_damaged
     yield operation("check", [made], work=near(8 * largest))
-    for _ in range(2 if len(counts) > 1 and counts[0] == counts[1] else chance(15)):
+    if chance(15) or (len(counts) > 1 and counts[0] == counts[1]):
         yield operation("board", [made], work=near(8 * largest))
     for _ in range(5 if often else 1):
         column = column_of(counts)
@@ -104,16 +115,16 @@ def on_a_sheet():
 def on_a_body():
     """One column of a small plan with a rule broken, and all the room it needs."""
     kind = rnd.randrange(2)
-    t = tree(kind, rnd.choice((1, 1, 2, 3, 3)))
-    some = numbers(kind, rnd.randint(1, 24))
+    t = tree(kind, rnd.choice((1, 2, 3, 3, 3)))
+    some = numbers(kind, rnd.choice((0, 1, 5, rnd.randint(1, 24), rnd.randint(1, 24))))
     if t[0] == r.G8IU and chance(50):
         some = [x % 2**rnd.choice((8, 8, 16)) for x in some]
         kind = 0
     made = assemble([(kind, filled(text(t)), len(some), loosely(t, some))])
     yield operation("check", [made], work=8 * len(some))
     yield operation("read", [made], 0, work=7 * len(some), out=4 * len(some))
-    yield operation("lookup", [made], 0, len(some) - 1)
-    yield operation("lookup", [made], 0, rnd.randrange(len(some)))
+    yield operation("lookup", [made], 0, max(0, len(some) - 1))
+    yield operation("lookup", [made], 0, rnd.randint(0, len(some)))
 
 
 def broken(orders):
@@ -135,14 +146,17 @@ def broken(orders):
 
 
 def writing():
+    """Orders, good and broken, with outputs around the size of the sheet that the good ones make."""
     orders = [(kind, bytes(15) if chance(15) else filled(text(t)), len(some), some) for kind, t, some in lists()]
-    good = r.write([order[:3] for order in orders], [x for order in orders for x in order[3]], 8192, 70000) \
-        if sum(order[2] for order in orders) < 15000 else bytes(65536)
-    for _ in range(4 if len(good) < 4000 else 1):
+    try:
+        size = len(r.write([order[:3] for order in orders], [x for order in orders for x in order[3]], 8192, 65536))
+    except r.Refused:
+        size = 65536
+    for _ in range(4 if size < 4000 else 2):
         some = list(orders)
         if chance(2):
             some += (17 - len(some)) * [(0, bytes(15), 0, [])]
-        for _ in range(rnd.choice((0, 0, 0, 1, 1, 2))):
+        for _ in range(rnd.choice((0, 0, 0, 1, 1, 2)) if size < 60000 else 0):
             if some:
                 broken(some)
         kinds, plans = bytes(order[0] for order in some), b"".join(order[1] for order in some)
@@ -157,7 +171,7 @@ def writing():
             joined = rnd.choice((joined[:-1], joined + [0]))
         largest = max((len(order[3]) for order in orders), default=0)
         yield operation("write", [kinds, plans, words(counts), words(joined)], work=near(7 * largest),
-                        out=near(len(good)))
+                        out=near(size) if size < 60000 or chance(50) else 70000)
 
 
 def judging():
@@ -171,10 +185,13 @@ def judging():
         yield operation("worst", [plan], n)
 
 
+SCENES = 2 * (on_a_sheet,) + 3 * (on_a_body,) + 3 * (on_a_board,) + (writing, judging)
+
+
 def operations(seed, many):
     """So many operations, the same for the same seed."""
     rnd.seed(seed)
     made = []
     while len(made) < many:
-        made += rnd.choice((on_a_sheet, on_a_sheet, on_a_body, on_a_body, on_a_body, writing, judging))()
+        made += rnd.choice(SCENES)()
     return made[:many]

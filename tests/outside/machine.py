@@ -40,7 +40,7 @@ def install():
     if missing:
         as_root("apt-get", "install", "-q", "-y", "--no-install-recommends", *missing)
     if not unpacked:
-        run("apt-get", "download", "-q", "libstreamvbyte-dev:amd64", cwd=MADE)
+        run("apt-get", "-o", "APT::Sandbox::User=root", "download", "-q", "libstreamvbyte-dev:amd64", cwd=MADE)
         package = [name for name in os.listdir(MADE) if name.endswith(".deb")][0]
         run("dpkg", "-x", package, STREAM, cwd=MADE)
         os.remove(os.path.join(MADE, package))

@@ -1,6 +1,6 @@
 // The six codes behind one name for each thing that is done with a code: the one place that lists them. Lookups walk the units of any code.
-mod dispatch;
-mod walk;
+pub mod dispatch;
+pub mod walk;
 
 pub use dispatch::read_code;
 pub use dispatch::start_at;

@@ -1,14 +1,14 @@
 -- Delta is read back as it was written, and written back as it was read. Assumes nothing.
-use mathlib.Core.Path.{_≡_, refl, sym, ap, ap₂, _∙_, subst}
-use Prim.Native.Nat.{ℕ, zero, suc, _+_, _-_, _*_, _^_, _≤_, _<_}
+use mathlib.Core.Path.{_≡_, sym, ap, ap₂, _∙_, subst}
+use Prim.Native.Nat.{ℕ, suc, _+_, _-_, _≤_, _<_}
 use native.Mathlib.Omega.{arith}
-use mathlib.Core.List.{List, [], _∷_, _++_, append-assoc}
+use mathlib.Core.List.{List, _++_, append-assoc}
 use borrow.Author.Tests.{le-leb, lt-leb, leb-true}
 use lib.Dec.{leb}
 use lib.ListN.{length, take, drop, length-append, length-drop, take-append-drop}
 use lib.Pow.{pow-pos}
 use lib.Seq.{drop-append-seam, take-at, length-take-le}
-use Rattle.meaning.specs.Answer.{Answer, given, refused, bind, need}
+use Rattle.meaning.specs.Answer.{given, refused}
 use Rattle.meaning.specs.Bits.{bitsHigh, numberHigh, bitLength}
 use Rattle.meaning.specs.Elias.{gammaBits, gammaIn, deltaBits, restIn, deltaWord}
 use Rattle.meaning.specs.Limits.{fault, numberLimit}

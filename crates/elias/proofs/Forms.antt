@@ -1,12 +1,12 @@
 -- Both forms of codewords at once. Assumes nothing.
 use Prim.Native.Nat.{ℕ, _+_, _-_, _*_, _≤_, _<_}
-use mathlib.Core.Path.{_≡_, refl, sym, ap, _∙_}
+use mathlib.Core.Path.{_≡_, refl, _∙_}
 use mathlib.Core.List.{List, [], _∷_}
 use native.Mathlib.Omega.{arith}
-use lib.ListN.{length, drop, length-drop}
-use Rattle.meaning.specs.Answer.{Answer, given, refused, bind}
+use lib.ListN.{length, drop}
+use Rattle.meaning.specs.Answer.{given, refused}
 use Rattle.meaning.specs.Bits.{bitsOf, pack}
-use Rattle.meaning.specs.Codes.{Code, codeGamma, codeDelta, readCode, always}
+use Rattle.meaning.specs.Codes.{readCode, always}
 use Rattle.meaning.specs.Elias.{writeGamma, writeDelta, unitElias, doneElias}
 use Rattle.meaning.specs.Limits.{fault, numberLimit}
 use Rattle.meaning.specs.Positions.{atBit}
@@ -19,11 +19,11 @@ use Rattle.meaning.proofs.Units.{Good}
 use Rattle.elias.specs.Says.{bitsOfWord, wordOf, codeWith}
 use Rattle.elias.specs.declared.word.Form.{Form}
 use Rattle.elias.specs.declared.word.Form.the-variants.{Gamma, Delta}
-use Rattle.elias.proofs.Codewords.{Word, Back}
+use Rattle.elias.proofs.Codewords.{Word}
 use Rattle.elias.proofs.Delta.{word-delta}
 use Rattle.elias.proofs.Gamma.{word-gamma}
 use Rattle.elias.proofs.Laws.{good, words}
-use Rattle.elias.proofs.Pack.{bits-length, bits-below}
+use Rattle.elias.proofs.Pack.{bits-left, bits-below}
 use Rattle.elias.proofs.Seen.{word-none}
 
 abbrev mostBits : Form → ℕ
@@ -67,7 +67,7 @@ module _ (f : Form) (body : List ℕ) where
   pub found : (p v k : ℕ) → wordOf f (drop p (bitsOf body)) ≡ given (v, k) → Found body p v k
   found p v k e =
       let l = drop p (bitsOf body) in
-      let long : length l ≡ 8 * length body - p = length-drop p (bitsOf body) ∙ ap (λ (n : ℕ). n - p) (bits-length body) in
+      let long = bits-left p body in
       let b = word-of f .back l (v, k) (below-drop 2 p (bitsOf body) (bits-below body)) e in
       by-order p (8 * length body)
       (λ h. record { some = b .some; few = b .few; within = omega (arith, b .within) })

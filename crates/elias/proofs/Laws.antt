@@ -1,16 +1,15 @@
 -- Gamma and delta are lawful: what is proved here once is proved of any codewords that are told apart from what follows them. Assumes nothing.
-use Prim.Native.Nat.{ℕ, zero, suc, _+_, _-_, _*_, _/_, _≤_, _<_}
+use Prim.Native.Nat.{ℕ, suc, _+_, _-_, _*_, _/_, _≤_, _<_}
 use mathlib.Core.Path.{_≡_, refl, sym, ap, _∙_, subst}
-use mathlib.Core.Bool.{Bool, true, _&&_}
+use mathlib.Core.Bool.{true}
 use mathlib.Core.List.{List, [], _∷_, _++_, append-assoc}
 use native.Mathlib.Nat.{mul-suc}
-use native.Mathlib.Numerals.{add-one}
 use native.Mathlib.Omega.{arith}
-use borrow.Author.Tests.{lt-ltb, ltb-true, eqb-true}
+use borrow.Author.Tests.{lt-ltb, ltb-true}
 use lib.Dec.{ltb, eqb}
 use lib.ListN.{length, drop, replicate, length-append, length-replicate}
 use lib.Seq.{drop-append-seam, drop-drop}
-use Rattle.meaning.specs.Answer.{Answer, given, bind}
+use Rattle.meaning.specs.Answer.{Answer, given}
 use Rattle.meaning.specs.Bits.{bitsOf, pack}
 use Rattle.meaning.specs.Codes.{Code, codeGamma, codeDelta, readCode, always}
 use Rattle.meaning.specs.Elias.{gammaBits, deltaBits, writeGamma, writeDelta, gammaWord, deltaWord, unitElias, doneElias}
@@ -28,7 +27,7 @@ use Rattle.elias.proofs.Delta.{word-delta}
 use Rattle.elias.proofs.Gamma.{word-gamma}
 use Rattle.elias.proofs.Pack.{bits-below, pack-length, pack-below, pack-bits, packed, spare}
 use Rattle.elias.proofs.Zeros.{all-zeros, zeros-all}
-use Rattle.elias.proofs.Codewords.{Word, Back}
+use Rattle.elias.proofs.Codewords.{Word}
 
 -- the codewords of a list
 abbrev pub words : (ℕ → List ℕ) → List ℕ → List ℕ

@@ -3,11 +3,9 @@ use mathlib.Core.Path.{_≡_, refl, sym, ap, _∙_}
 use Prim.Native.Nat.{ℕ, zero, suc, _+_, _-_, _*_, _/_, _%_, _^_, _≤_, _<_}
 use native.Mathlib.Nat.{pow-suc, lt-of-not-le}
 use native.Mathlib.Omega.{arith}
-use mathlib.Core.Bool.{cond}
 use mathlib.Core.List.{List, _∷_}
-use borrow.Author.Tests.{eq-eqb, ne-eqb}
+use borrow.Author.Tests.{ne-eqb}
 use lib.Count.{leadingZeros, leading-top, leading-unique}
-use lib.Dec.{eqb}
 use lib.ListN.{length}
 use lib.Pow.{pow-mono, pow-pos, high, low}
 use Rattle.meaning.specs.Bits.{bitsHigh, numberHigh, digitsIn, bitLength}

@@ -1,16 +1,15 @@
 -- What the loop of a writing knows, for both forms. Assumes nothing.
 use mathlib.Core.Path.{_≡_, refl, sym, ap, _∙_}
-use Prim.Native.Nat.{ℕ, suc, _+_, _*_, _^_, _≤_, _<_}
-use native.Mathlib.Nat.{add-zero}
+use Prim.Native.Nat.{ℕ, _+_, _*_, _^_, _≤_, _<_}
 use native.Mathlib.Numerals.{add-one}
 use native.Mathlib.Omega.{arith}
 use mathlib.Core.List.{List, [], _∷_, _++_, append-nil}
-use lib.ListN.{length, getD, take, drop, length-append, length-drop, drop-of-length-le}
+use lib.ListN.{length, getD, drop, length-append, length-drop, drop-of-length-le}
 use lib.Seq.{sets, drop-cons, getD-take, getD-drop, length-take-le}
 use Rattle.meaning.specs.Bits.{bitsHigh, pack}
 use Rattle.meaning.specs.Limits.{numberLimit}
 use Rattle.meaning.specs.Lists.{joined}
-use Rattle.meaning.specs.Places.{part, Source, Wrote}
+use Rattle.meaning.specs.Places.{part, Wrote}
 use Rattle.meaning.specs.declared.Offset.{Offset}
 use Rattle.elias.specs.Carry.{waiting, reach, Free, Pushed}
 use Rattle.elias.specs.Says.{bitsOfWord, codeWith}

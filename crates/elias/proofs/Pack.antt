@@ -20,6 +20,10 @@ unfolding bitsOf joined
 bits-length [] = refl
 bits-length (x ∷ xs) = length-append (bitsHigh 8 x) (bitsOf xs) ∙ omega (arith, high-length 8 x, bits-length xs)
 
+-- how many are left from a bit on
+pub bits-left : (p : ℕ) (s : List ℕ) → length (drop p (bitsOf s)) ≡ 8 * length s - p
+bits-left p s = length-drop p (bitsOf s) ∙ ap (λ (n : ℕ). n - p) (bits-length s)
+
 pub bits-below : (s : List ℕ) → Below 2 (bitsOf s)
 unfolding bitsOf joined
 bits-below [] = below-nil 2 (omega arith)

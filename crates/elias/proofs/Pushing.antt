@@ -1,18 +1,17 @@
 -- Bits pushed to an output, a byte at a time. Assumes nothing.
 use mathlib.Core.Path.{_≡_, refl, sym, ap, ap₂, _∙_}
-use Prim.Native.Nat.{ℕ, zero, suc, _+_, _-_, _*_, _/_, _%_, _^_, _≤_, _<_}
+use Prim.Native.Nat.{ℕ, _+_, _-_, _*_, _/_, _%_, _^_, _≤_, _<_}
 use native.Mathlib.Nat.{add-zero, mod-lt}
 use native.Mathlib.Numerals.{add-one}
 use native.Mathlib.Omega.{arith}
-use mathlib.Core.List.{List, [], _∷_, _++_, append-assoc, append-nil}
+use mathlib.Core.List.{List, [], _∷_, _++_, append-assoc}
 use lib.Arith.{digits-lt}
-use lib.ListN.{length, drop, set, replicate, length-set, length-append, drop-of-length-le}
+use lib.ListN.{length, set, replicate, length-set, length-append, drop-of-length-le}
 use lib.Pow.{pow-pos, pow-add}
 use lib.Seq.{sets}
-use Rattle.meaning.specs.Bits.{bitsHigh, numberHigh, byteOf, pack}
+use Rattle.meaning.specs.Bits.{bitsHigh, numberHigh, pack}
 use Rattle.meaning.specs.Places.{Wrote}
-use Rattle.meaning.specs.declared.Offset.{Offset}
-use Rattle.elias.specs.Carry.{waiting, reach, Free, Pushed}
+use Rattle.elias.specs.Carry.{waiting, Pushed}
 use Rattle.elias.specs.Padded.{padded}
 use Rattle.elias.specs.declared.output.Pending.{Pending}
 use Rattle.elias.proofs.Numbers.{high-length, high-split, high-zeros, number-high}

@@ -7,11 +7,11 @@ use mathlib.Core.Bool.{Bool, true, false, _&&_}
 use mathlib.Core.List.{List, [], _∷_}
 use borrow.Author.Tests.{le-leb, lt-ltb, le-ltb, ne-eqb}
 use lib.Count.{leadingZeros}
-use lib.Dec.{leb, ltb, eqb, eqb·zero-suc}
+use lib.Dec.{leb, eqb, eqb·zero-suc}
 use lib.ListN.{length, take, drop, replicate}
 use lib.Pow.{pow-pos, pow-mono}
 use lib.Seq.{take-take, take-add, drop-drop, length-take-le}
-use Rattle.meaning.specs.Answer.{Answer, given, refused, bind, need}
+use Rattle.meaning.specs.Answer.{given, refused, bind, need}
 use Rattle.meaning.specs.Bits.{bitsHigh, bitsOf, numberHigh, zerosFirst}
 use Rattle.meaning.specs.Elias.{gammaIn, gammaWord, restIn, deltaWord, doneElias}
 use Rattle.meaning.specs.Limits.{fault, numberLimit}
@@ -140,7 +140,7 @@ all-padded zero (x ∷ l) h = absurd (omega arith)
 all-padded (suc n) [] h = all-padded n [] (omega arith)
 all-padded (suc n) (x ∷ l) h = ap (λ (b : Bool). eqb 0 x && b) (all-padded n l (omega arith))
 
-module _ (s p : ℕ) (body : List ℕ) where
+module _ (p : ℕ) (body : List ℕ) where
   abbrev left : List ℕ
   left = drop p (bitsOf body)
 
@@ -148,8 +148,8 @@ module _ (s p : ℕ) (body : List ℕ) where
   unfolding doneElias
   seen-more h = rw (le-ltb (length left) 8 h)
 
-  pub seen-done : (v : ℕ) → take 57 (bitsHigh 64 s) ≡ padded 57 left → length left ≤ 7 → v ≡ numberHigh 0 (take 7 (bitsHigh 64 s)) → eqb v 0 ≡ doneElias body (atBit p)
+  pub seen-done : (s v : ℕ) → take 57 (bitsHigh 64 s) ≡ padded 57 left → length left ≤ 7 → v ≡ numberHigh 0 (take 7 (bitsHigh 64 s)) → eqb v 0 ≡ doneElias body (atBit p)
   unfolding doneElias
-  seen-done v seen h e =
+  seen-done s v seen h e =
       let seven : take 7 (bitsHigh 64 s) ≡ padded 7 left = sym (take-take 7 57 (bitsHigh 64 s) (omega arith)) ∙ ap (take 7) seen ∙ padded-take 7 50 left in
       rw (e, seven, number-zero (padded 7 left), all-padded 7 left h, lt-ltb (length left) 8 (omega arith))

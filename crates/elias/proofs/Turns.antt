@@ -1,12 +1,11 @@
 -- What the loop of a reading knows, for both forms. Assumes nothing.
 use Prim.Native.Nat.{ℕ, _+_, _-_, _*_, _≤_, _<_}
-use mathlib.Core.Path.{_≡_, refl, sym, ap, _∙_, subst}
+use mathlib.Core.Path.{_≡_, refl, _∙_}
 use mathlib.Core.Bool.{true, false}
 use mathlib.Core.List.{List, [], _∷_}
 use native.Mathlib.Omega.{arith}
 use lib.ListN.{length, drop, set}
-use lib.Seq.{sets}
-use Rattle.meaning.specs.Answer.{given, refused, need}
+use Rattle.meaning.specs.Answer.{given, refused}
 use Rattle.meaning.specs.Bits.{bitsOf}
 use Rattle.meaning.specs.Codes.{readCode, always}
 use Rattle.meaning.specs.Elias.{unitElias, doneElias}

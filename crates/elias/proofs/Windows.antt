@@ -1,10 +1,10 @@
 -- Eight bytes as one number, shifted until its first bit is the one asked for. Assumes nothing.
-use mathlib.Core.Path.{_≡_, refl, sym, ap, ap₂, _∙_}
-use Prim.Native.Nat.{ℕ, zero, suc, _+_, _-_, _*_, _/_, _%_, _^_, _≤_, _<_}
+use mathlib.Core.Path.{_≡_, sym, ap, ap₂, _∙_}
+use Prim.Native.Nat.{ℕ, _+_, _-_, _*_, _/_, _%_, _^_, _≤_, _<_}
 use native.Mathlib.Nat.{zero-add, add-zero, one-mul, mul-mod-left, mod-eq-of-lt}
 use native.Mathlib.Omega.{arith}
 use mathlib.Core.List.{List, [], _∷_, _++_, append-assoc, append-nil}
-use lib.ListN.{length, getD, take, drop, replicate, length-append}
+use lib.ListN.{length, getD, take, drop}
 use lib.Pow.{pow-pos, pow-lt, mod-pow-add, shl-shr, shr-shr, shr-mod}
 use lib.Seq.{take-take, take-append-le, drop-drop}
 use Rattle.meaning.specs.Bits.{bitsHigh, bitsOf, numberHigh}

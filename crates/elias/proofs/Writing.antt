@@ -1,17 +1,16 @@
--- Codewords pushed to an output in their parts, and lists of them. Assumes nothing.
-use mathlib.Core.Path.{_≡_, refl, sym, ap, _∙_, subst}
-use Prim.Native.Nat.{ℕ, zero, suc, _+_, _-_, _*_, _%_, _^_, _≤_, _<_}
+-- Codewords pushed to an output in their parts. Assumes nothing.
+use mathlib.Core.Path.{_≡_, sym, ap, _∙_, subst}
+use Prim.Native.Nat.{ℕ, suc, _+_, _-_, _*_, _%_, _^_, _≤_, _<_}
 use native.Mathlib.Nat.{pow-suc}
 use native.Mathlib.Omega.{arith}
-use mathlib.Core.List.{List, [], _∷_, _++_}
-use lib.Count.{leadingZeros}
-use lib.ListN.{length, getD, take, drop, length-append}
-use Rattle.meaning.specs.Bits.{bitsHigh, bitLength, pack}
+use mathlib.Core.List.{List, _++_}
+use lib.ListN.{length, length-append}
+use Rattle.meaning.specs.Bits.{bitsHigh, bitLength}
 use Rattle.meaning.specs.Elias.{gammaBits, deltaBits}
 use Rattle.meaning.specs.Limits.{numberLimit}
-use Rattle.elias.specs.Carry.{waiting, reach, Free, Pushed}
+use Rattle.elias.specs.Carry.{Free, Pushed}
 use Rattle.elias.specs.declared.output.Pending.{Pending}
-use Rattle.elias.proofs.Length.{Long, long-of, length-leading, without-one}
+use Rattle.elias.proofs.Length.{long-of, without-one}
 use Rattle.elias.proofs.Numbers.{high-length, high-zeros}
 use Rattle.elias.proofs.Pushing.{push-then}
 use Rattle.elias.proofs.Windows.{one-shl}

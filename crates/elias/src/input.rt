@@ -32,7 +32,16 @@ fn window(body: &[u8], at: usize) -> u64
     ensures { λ r. ⌜ bitsHigh 64 r ≡ padded 64 (drop (8 * at) (bitsOf (now (body .entry)))) ⌝ }
 {
     if at + 8 <= body.len() {
-        return eight(body[at], body[at + 1], body[at + 2], body[at + 3], body[at + 4], body[at + 5], body[at + 6], body[at + 7]);
+        return eight(
+            body[at],
+            body[at + 1],
+            body[at + 2],
+            body[at + 3],
+            body[at + 4],
+            body[at + 5],
+            body[at + 6],
+            body[at + 7],
+        );
     }
     eight(
         byte_at(body, at),

@@ -19,7 +19,7 @@ use meaning::Unit;
 use meaning::UnitRead;
 ghost use Prim.Native.Nat.{_≤_};
 ghost use lib.ListN.{length};
-ghost use Rattle.meaning.specs.Codes.{Code, codeGamma, codeDelta, readCode};
+ghost use Rattle.meaning.specs.Codes.{codeGamma, codeDelta, readCode};
 ghost use Rattle.meaning.specs.Limits.{mostBytes};
 ghost use Rattle.meaning.specs.Places.{part, Source, Wrote, UnitIs, Target, Got};
 ghost use Rattle.elias.specs.Says.{codeWith};

@@ -6,7 +6,7 @@ ghost use mathlib.Core.Path.{_≡_};
 ghost use Prim.Native.Nat.{_+_, _-_, _*_, _<_, _≤_};
 ghost use lib.Dec.{leb};
 ghost use lib.ListN.{length, drop};
-ghost use Rattle.meaning.specs.Answer.{Answer, given, need};
+ghost use Rattle.meaning.specs.Answer.{given, need};
 ghost use Rattle.meaning.specs.Bits.{bitsOf};
 ghost use Rattle.meaning.specs.Elias.{gammaIn, deltaWord, doneElias};
 ghost use Rattle.meaning.specs.Limits.{fault, mostBytes};

@@ -1,20 +1,18 @@
 -- A list in blocks: a block takes numbers as long as they fit, and the rest of the list is written after it. Assumes nothing.
-use Prim.Native.Nat.{ℕ, zero, suc, _+_, _-_, _*_, _/_, _≤_, _<_}
+use Prim.Native.Nat.{ℕ, zero, suc, _+_, _-_, _*_, _/_, _≤_}
 use mathlib.Core.Path.{_≡_, refl, sym, ap, _∙_, subst}
-use mathlib.Core.Bool.{Bool, true, false, not, cond}
+use mathlib.Core.Bool.{true, false, not}
 use mathlib.Core.List.{List, [], _∷_, _++_, append-assoc, append-nil, map}
 use native.Mathlib.Omega.{arith}
-use lib.ListN.{length, getD, replicate, length-append, length-replicate, length-map}
+use lib.ListN.{length, replicate, length-append, length-replicate}
 use borrow.Author.Tests.{le-leb, leb-true, leb-false}
 use Rattle.meaning.specs.Lists.{sum, joined}
-use Rattle.meaning.specs.Limits.{numberLimit}
 use Rattle.meaning.specs.Places.{Below}
 use Rattle.meaning.specs.Fields.{byteLength, fewest, fields}
-use Rattle.meaning.specs.G8IU.{fits, blocksFrom, blocks, blockControl, block, writeG8IU, joinsG8IU}
+use Rattle.meaning.specs.G8IU.{fits, blocksFrom, blocks, blockControl, block, writeG8IU}
 use Rattle.meaning.proofs.Bounds.{below-nil, below-cons, below-append, below-zeros}
 use Rattle.meaning.proofs.Tests.{by-test}
 use Rattle.fields.proofs.Fields.{held, few-length, fields-cons, fields-append, fields-length, fields-most, fields-small}
-use Rattle.leaves.proofs.Joined.{joined-append}
 use Rattle.g8iu.proofs.Controls.{Some, control-small}
 
 -- ---- a block that goes no further: the list ends there, or its next number does not fit

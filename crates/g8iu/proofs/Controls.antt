@@ -1,22 +1,21 @@
 -- The control byte of a block: its bits say the lengths, and the lengths say its bits. Assumes nothing.
 use Prim.Native.Nat.{ℕ, zero, suc, _+_, _-_, _*_, _/_, _%_, _^_, _≤_, _<_}
 use mathlib.Core.Path.{_≡_, refl, sym, ap, ap₂, _∙_}
-use mathlib.Core.Bool.{Bool, true, _&&_, cond}
+use mathlib.Core.Bool.{Bool, _&&_}
 use mathlib.Core.List.{List, [], _∷_, _++_, append-assoc}
 use native.Mathlib.Nat.{pow-suc, add-zero}
-use native.Mathlib.Numerals.{add-one, sub-one}
 use native.Mathlib.Omega.{arith}
-use lib.Count.{ones, onesIn, trailingZeros}
-use lib.Dec.{leb, ltb, eqb}
+use lib.Count.{ones, onesIn}
+use lib.Dec.{leb, eqb}
 use lib.ListN.{length, replicate, length-append, length-replicate, replicate-append-replicate}
-use borrow.Author.Tests.{eqb-true, leb-true, ltb-true, ne-eqb}
-use Rattle.meaning.specs.Lists.{all, sum, joined}
+use borrow.Author.Tests.{eqb-true, leb-true}
+use Rattle.meaning.specs.Lists.{sum, joined}
 use Rattle.meaning.specs.Places.{Below}
 use Rattle.meaning.specs.G8IU.{bitsLow, numberLow, endBits, blockControl, lengthsBy, blockLengths}
 use Rattle.meaning.proofs.Bounds.{below-nil, below-cons, below-append}
 use Rattle.meaning.proofs.Tests.{both-true}
 use Rattle.leaves.proofs.Joined.{joined-append, joined-one, sum-append}
-use Rattle.g8iu.proofs.Tables.{each, at-each, same, same-is}
+use Rattle.g8iu.proofs.Tables.{each, at-each}
 
 -- ---- bits, lowest first
 pub bits-number : (bs : List ℕ) → Below 2 bs → bitsLow (length bs) (numberLow bs) ≡ bs
@@ -43,10 +42,6 @@ number-bit (h ∷ hs) bs = rw (number-bit hs bs, pow-suc 2 (length hs)) (omega a
 abbrev pub Some : List ℕ → Type 0
 Some [] = Unit {0}
 Some (l ∷ ls) = (1 ≤ l) × Some ls
-
-pub some-append : (ls ms : List ℕ) → Some ls → Some ms → Some (ls ++ ms)
-some-append [] ms h k = k
-some-append (l ∷ ls) ms h k = (h .0, some-append ls ms (h .1) k)
 
 below-ones : (n : ℕ) → Below 2 (replicate n 1)
 below-ones zero i = omega arith
@@ -115,9 +110,9 @@ lengths-control ls h m =
     ∙ ap (lengthsBy 0) (bits-number (controlBits ls) (bits-below ls)) ∙ lengths-bits ls (8 - sum ls) h
 
 -- ---- one number more: the bit at its last byte falls
-bits-more : (ls : List ℕ) (l : ℕ) → sum (ls ++ (l ∷ [])) ≡ sum ls + l
+sum-more : (ls : List ℕ) (l : ℕ) → sum (ls ++ (l ∷ [])) ≡ sum ls + l
 unfolding sum
-bits-more ls l = sum-append ls (l ∷ []) ∙ omega arith
+sum-more ls l = sum-append ls (l ∷ []) ∙ omega arith
 
 pub control-none : blockControl [] ≡ 255
 unfolding blockControl numberLow joined sum
@@ -143,7 +138,7 @@ module _ (ls : List ℕ) (l : ℕ) (some : Some ls) (least : 1 ≤ l) (within : 
   bits-next : controlBits (ls ++ (l ∷ [])) ≡ lower ++ (0 ∷ upper)
   unfolding endBits
   bits-next =
-      rw (bits-more ls l, joined-append endBits ls (l ∷ []), joined-one endBits l)
+      rw (sum-more ls l, joined-append endBits ls (l ∷ []), joined-one endBits l)
       (simp append-assoc)
 
   pub control-more : blockControl ls ≡ blockControl (ls ++ (l ∷ [])) + 2 ^ (sum ls + l - 1)

@@ -1,14 +1,14 @@
 -- G8IU is lawful: what it writes reads back, what it reads is what would be written, and its size is as told. Assumes nothing.
-use Prim.Native.Nat.{ℕ, zero, suc, _+_, _-_, _≤_, _<_}
+use Prim.Native.Nat.{ℕ, suc, _+_, _-_, _≤_, _<_}
 use mathlib.Core.Path.{_≡_, refl, sym, ap, _∙_, subst}
 use mathlib.Core.Bool.{Bool, true, false, not, _||_}
 use mathlib.Core.List.{List, [], _∷_, _++_}
 use native.Mathlib.Omega.{arith}
 use lib.Dec.{leb, eqb}
-use lib.ListN.{length, getD, drop, length-append, length-drop, drop-of-length-le}
+use lib.ListN.{length, drop, length-append, length-drop, drop-of-length-le}
 use lib.Seq.{drop-at, drop-drop}
 use borrow.Author.Tests.{le-leb, eq-eqb, eqb-true, not-true}
-use Rattle.meaning.specs.Answer.{Answer, given}
+use Rattle.meaning.specs.Answer.{given}
 use Rattle.meaning.specs.Codes.{codeG8IU, readCode, toLast}
 use Rattle.meaning.specs.Limits.{numberLimit}
 use Rattle.meaning.specs.Places.{Below}
@@ -18,10 +18,10 @@ use Rattle.meaning.specs.G8IU.{fits, block, writeG8IU, unitG8IU, joinsG8IU}
 use Rattle.meaning.specs.declared.Position.{Position}
 use Rattle.meaning.proofs.Bounds.{below-nil, below-append, below-left, below-right}
 use Rattle.meaning.proofs.Lawful.{Lawful, Read}
-use Rattle.meaning.proofs.Units.{Good, Whole, read-many, read-written, read-holds}
+use Rattle.meaning.proofs.Units.{Whole, read-many, read-written, read-holds}
 use Rattle.fields.proofs.Fields.{fields-most}
-use Rattle.g8iu.proofs.Blocks.{Stops, Cut, cut, stops-full, block-length, write-none, write-next, most, write-small}
-use Rattle.g8iu.proofs.Units.{Ends, Taken, unit-written, taken, good, Back, unit-back}
+use Rattle.g8iu.proofs.Blocks.{Stops, cut, stops-full, block-length, write-none, write-next, most, write-small}
+use Rattle.g8iu.proofs.Units.{Ends, unit-written, taken, good, Back, unit-back}
 
 -- ---- a list that may follow a block
 abbrev Follows : List ℕ → List ℕ → Type 0

@@ -1,7 +1,7 @@
 -- Parts of a list between two offsets, one element at a time, and the tests that `is_clear` and `is_fewest` make of them. Assumes nothing.
-use Prim.Native.Nat.{ℕ, zero, suc, _+_, _-_, _*_, _^_, _≤_, _<_}
-use mathlib.Core.Path.{_≡_, refl, sym, ap, ap₂, _∙_}
-use mathlib.Core.Bool.{Bool, true, false, not, _&&_, _||_}
+use Prim.Native.Nat.{ℕ, zero, suc, _+_, _-_, _≤_, _<_}
+use mathlib.Core.Path.{_≡_, refl, sym, _∙_}
+use mathlib.Core.Bool.{true, false, not}
 use mathlib.Core.List.{List, [], _∷_, _++_}
 use native.Mathlib.Numerals.{add-one}
 use native.Mathlib.Omega.{arith}
@@ -14,6 +14,7 @@ use Rattle.meaning.specs.Fields.{byteLength}
 use Rattle.meaning.specs.Lists.{all}
 use Rattle.meaning.specs.Places.{Below, part}
 use Rattle.meaning.proofs.Tests.{by-order, by-test}
+use Rattle.fields.proofs.Fields.{held}
 use Rattle.fields.proofs.Straight.{number-1, number-2, number-3, number-4, fewest-1, fewest-2, fewest-3, fewest-4}
 
 pub part-next : (s : List ℕ) (i end : ℕ) → i < end → end ≤ length s → part s i (end - i) ≡ getD s i 0 ∷ part s (i + 1) (end - (i + 1))
@@ -21,8 +22,8 @@ part-next s i end h l =
     let e : end - i ≡ suc (end - (i + 1)) = omega arith in
     rw (e, drop-cons s i 0 (omega arith), add-one i)
 
-pub part-more : (s : List ℕ) (from k : ℕ) → from + k < length s → part s from (k + 1) ≡ part s from k ++ (getD s (from + k) 0 ∷ [])
-part-more s from k h = rw (add-one k, take-suc (drop from s) k 0 (omega (arith, length-drop from s)), getD-drop from s k 0)
+pub part-snoc : (s : List ℕ) (from k : ℕ) → from + k < length s → part s from (k + 1) ≡ part s from k ++ (getD s (from + k) 0 ∷ [])
+part-snoc s from k h = rw (add-one k, take-suc (drop from s) k 0 (omega (arith, length-drop from s)), getD-drop from s k 0)
 
 pub part-length : (s : List ℕ) (from k : ℕ) → from + k ≤ length s → length (part s from k) ≡ k
 part-length s from k h = length-take-le k (drop from s) (omega (arith, length-drop from s))
@@ -63,6 +64,10 @@ module _ (x : ℕ) where
       by-test (eqb b 0)
       (λ t. let l = none (eqb-true b 0 t) in rw (t, ne-eqb (byteLength x) k (omega arith)))
       (λ t. rw (t, eq-eqb (byteLength x) k (some (eqb-false b 0 t))))
+
+module _ (s : List ℕ) (at : ℕ) where
+  pub fewest-long : (len : ℕ) → 4 < len → false ≡ eqb (byteLength (numberOf (take len (drop at s)))) len
+  fewest-long len h = let x = numberOf (take len (drop at s)) in sym (ne-eqb (byteLength x) len (λ e. omega (arith, held x .most)))
 
 module _ (s : List ℕ) (small : Below 256 s) (at : ℕ) where
   pub fewest-one : (len : ℕ) → len ≡ 1 → at + len ≤ length s → true ≡ eqb (byteLength (numberOf (take len (drop at s)))) len

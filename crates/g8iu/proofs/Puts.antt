@@ -1,12 +1,12 @@
 -- Putting a block: the zeros after its data, and its numbers one after another. Assumes nothing.
 use Prim.Native.Nat.{ℕ, suc, _+_, _-_, _*_, _%_, _^_, _≤_, _<_}
 use mathlib.Core.Path.{_≡_, refl, sym, ap, ap₂, _∙_}
-use mathlib.Core.Bool.{Bool, true, false}
+use mathlib.Core.Bool.{false}
 use mathlib.Core.List.{List, [], _∷_, _++_, map, map-append}
 use native.Mathlib.Nat.{one-mul}
 use native.Mathlib.Numerals.{add-one}
 use native.Mathlib.Omega.{arith}
-use lib.ListN.{length, getD, take, drop, set, replicate, length-set, length-append}
+use lib.ListN.{length, getD, set, replicate, length-set, length-append}
 use lib.Pow.{shl-exact}
 use lib.Seq.{sets}
 use borrow.Author.Tests.{lt-leb}
@@ -20,7 +20,7 @@ use Rattle.leaves.proofs.Joined.{joined-one}
 use Rattle.g8iu.specs.Blocks.{PutBlock}
 use Rattle.g8iu.proofs.Controls.{control-none, control-small, control-more}
 use Rattle.g8iu.proofs.Blocks.{fields-more, lengths-some}
-use Rattle.g8iu.proofs.Parts.{part-more}
+use Rattle.g8iu.proofs.Parts.{part-snoc}
 
 -- ---- zeros after the data bytes that are used: i of the 8 stand, and what is left makes the whole
 pub record ZerosSo (out₀ : List ℕ) (at used : ℕ) (out : List ℕ) (i : ℕ) : Type 0 where
@@ -103,7 +103,7 @@ module _ (list : List ℕ) (from end at : ℕ) (out₀ out : List ℕ) (control 
     b-more =
         let e : next + 1 - from ≡ next - from + 1 = omega (arith, so .low) in
         let k : from + (next - from) ≡ next = omega (arith, so .low) in
-        rw (e, part-more list from (next - from) (omega arith), k, is) (ap (λ (l : List ℕ). l ++ (getD list next 0 ∷ [])) (so .is))
+        rw (e, part-snoc list from (next - from) (omega arith), k, is) (ap (λ (l : List ℕ). l ++ (getD list next 0 ∷ [])) (so .is))
 
     bit-value : 1 * 2 ^ (used + byteLength x - 1) % 2 ^ 32 ≡ 2 ^ (used + byteLength x - 1)
     bit-value = shl-exact {a = 1} 1 (used + byteLength x - 1) 32 (omega arith) (omega arith) ∙ one-mul (2 ^ (used + byteLength x - 1))

@@ -1,30 +1,30 @@
 -- What a taken block says of the unit at its offset, and what the loop of a strict reading knows: the room that the block before left. Assumes nothing.
 use Prim.Native.Nat.{ℕ, suc, _+_, _-_, _≤_, _<_}
-use mathlib.Core.Path.{_≡_, refl, sym, ap, ap₂, _∙_, subst}
-use mathlib.Core.Bool.{Bool, true, false, not}
+use mathlib.Core.Path.{_≡_, refl, sym, _∙_, subst}
+use mathlib.Core.Bool.{Bool}
 use mathlib.Core.List.{List, [], _∷_}
 use native.Mathlib.Omega.{arith}
-use lib.Count.{ones}
-use lib.Dec.{leb, ltb, eqb}
-use lib.ListN.{length, getD, take, drop, set}
+use lib.Dec.{ltb}
+use lib.ListN.{length, getD, take, set}
 use lib.Seq.{sets, length-sets, getD-set-same}
 use borrow.Author.Tests.{le-leb, lt-leb, lt-ltb, le-ltb, eq-eqb, ne-eqb}
-use Rattle.meaning.specs.Answer.{Answer, given, refused, bind, need}
+use Rattle.meaning.specs.Answer.{Answer, given, refused, bind}
 use Rattle.meaning.specs.Codes.{codeG8IU, readCode, toLast}
 use Rattle.meaning.specs.Limits.{fault}
-use Rattle.meaning.specs.Places.{part, Got, UnitIs}
+use Rattle.meaning.specs.Places.{Got, UnitIs}
 use Rattle.meaning.specs.Positions.{atByte}
 use Rattle.meaning.specs.Units.{readUnits}
 use Rattle.meaning.specs.Fields.{byteLength, fields}
-use Rattle.meaning.specs.G8IU.{fits, blockLengths, blockIn, unitG8IU, joinsG8IU}
+use Rattle.meaning.specs.G8IU.{fits, unitG8IU, joinsG8IU}
 use Rattle.meaning.specs.declared.Position.{Position}
+use Rattle.meaning.specs.declared.UnitRead.{UnitRead}
 use Rattle.meaning.specs.declared.Reading.the-variants as reading
 use Rattle.meaning.specs.declared.Unit.the-variants as unit
 use Rattle.meaning.proofs.Loops.{ReadSo, read-start, read-turn, read-refuse, read-unjoined, read-end, got-refused, got-whole}
 use Rattle.meaning.proofs.Stores.{take-sets, getD-sets, part-same, part-sets}
 use Rattle.meaning.proofs.Tests.{by-order}
 use Rattle.fields.proofs.Fields.{held}
-use Rattle.g8iu.specs.Blocks.{Says, BlockIs}
+use Rattle.g8iu.specs.Blocks.{blockAt, Says, BlockIs}
 use Rattle.g8iu.specs.declared.taking.Block.{Block}
 use Rattle.g8iu.specs.declared.taking.Block.the-variants.{Taken, Refused}
 use Rattle.g8iu.proofs.Controls.{control-is}
@@ -36,20 +36,17 @@ unfolding unitG8IU
 unit-short body left p h = rw (lt-leb (p .head .byte + 9) (length body) h)
 
 module _ (body : List ℕ) (left : ℕ) (p : Position) (inside : p .head .byte + 9 ≤ length body) where
-  abbrev answer : Answer (List ℕ)
-  answer = blockIn left (blockLengths (getD body (p .head .byte) 0)) (take 8 (drop (p .head .byte + 1) body))
-
-  unit-is : (a : Answer (List ℕ)) → answer ≡ a → unitG8IU body left p ≡ bind a (λ xs. given (atByte (p .head .byte + 9), xs))
+  unit-is : (a : Answer (List ℕ)) → blockAt body left (p .head .byte) ≡ a → unitG8IU body left p ≡ bind a (λ xs. given (atByte (p .head .byte + 9), xs))
   unfolding unitG8IU
   unit-is a e = rw (le-leb (p .head .byte + 9) (length body) inside, e)
 
-  module _ (to : ℕ) (out out′ : List ℕ) (r : Block) (is : BlockIs answer to out out′ r) where
+  module _ (to : ℕ) (out out′ : List ℕ) (r : Block) (is : BlockIs (blockAt body left (p .head .byte)) to out out′ r) where
     pub unit-refused : (e : ℕ) → r ≡ Refused e → unitG8IU body left p ≡ refused e
-    unit-refused e q = unit-is (refused e) (subst (Says answer (is .stored)) q (is .says))
+    unit-refused e q = unit-is (refused e) (subst (Says (blockAt body left (p .head .byte)) (is .stored)) q (is .says))
 
     module _ (count waste : ℕ) (q : r ≡ Taken count waste) where
-      says : (answer ≡ given (is .stored)) × (count ≡ length (is .stored)) × (waste ≡ 8 - length (fields (is .stored)))
-      says = subst (Says answer (is .stored)) q (is .says)
+      says : (blockAt body left (p .head .byte) ≡ given (is .stored)) × (count ≡ length (is .stored)) × (waste ≡ 8 - length (fields (is .stored)))
+      says = subst (Says (blockAt body left (p .head .byte)) (is .stored)) q (is .says)
 
       pub unit-taken : unitG8IU body left p ≡ given (atByte (p .head .byte + 9), is .stored)
       unit-taken = unit-is (given (is .stored)) (says .0)
@@ -67,9 +64,8 @@ unit-few body left p u h e =
     omega (arith, fields-many _ _ _ (t .numbers), control-is (getD body (p .head .byte) 0) h .many)
 
 -- ---- the unit's answer
-pub unit-none : (body : List ℕ) (left : ℕ) (p : Position) (numbers : List ℕ) (e : ℕ) → unitG8IU body left p ≡ refused e
-    → UnitIs (unitG8IU body left p) (record { unit = unit.Refused e; numbers = numbers })
-unit-none body left p numbers e q = record { told = sym q; few = omega arith }
+pub unit-none : (body : List ℕ) (left : ℕ) (p : Position) (r : UnitRead) (e : ℕ) → unitG8IU body left p ≡ refused e → UnitIs (refused e) r → UnitIs (unitG8IU body left p) r
+unit-none body left p r e q is = subst (λ (a : Answer (Position × List ℕ)). UnitIs a r) (sym q) is
 
 pub unit-next : (body : List ℕ) (left : ℕ) (p : Position) (xs zeros numbers : List ℕ) (count : ℕ) → length zeros ≡ 8 → length xs ≤ 8 → count ≡ length xs → numbers ≡ sets zeros 0 xs
     → unitG8IU body left p ≡ given (atByte (p .head .byte + 9), xs) → UnitIs (unitG8IU body left p) (record { unit = unit.Next (atByte (p .head .byte + 9)) count; numbers = numbers })
@@ -143,7 +139,7 @@ module _ (body : List ℕ) (n : ℕ) (work₀ : List ℕ) (first : ℕ) (fits-in
       room-refused fault work [] refl
       (read-refuse (unitG8IU body) joinsG8IU (toLast body) n (atByte 0) work₀ first (good body) work i (so .before) (atByte at) (so .so) fault h (unit-short body (n - i) (atByte at) (omega (arith, so .inside))))
 
-  module _ (h : i < n) (inside : at + 9 ≤ length body) (work′ : List ℕ) (r : Block) (is : BlockIs (answer body (n - i) (atByte at) inside) (first + i) work work′ r) where
+  module _ (h : i < n) (inside : at + 9 ≤ length body) (work′ : List ℕ) (r : Block) (is : BlockIs (blockAt body (n - i) at) (first + i) work work′ r) where
     pub room-fault : (e : ℕ) → r ≡ Refused e → Got (readCode codeG8IU body n) first work₀ work′ (reading.Refused e)
     room-fault e q =
         room-refused e work′ (is .stored) (is .here)

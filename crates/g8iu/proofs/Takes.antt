@@ -1,5 +1,5 @@
 -- Taking a block: its numbers one after another, and what each test says of the block's answer. Assumes nothing.
-use Prim.Native.Nat.{ℕ, suc, _+_, _-_, _/_, _^_, _≤_, _<_, min}
+use Prim.Native.Nat.{ℕ, _+_, _-_, _/_, _^_, _≤_, _<_}
 use mathlib.Core.Path.{_≡_, refl, sym, ap, ap₂, _∙_}
 use mathlib.Core.Bool.{Bool, true, false, _||_}
 use mathlib.Core.List.{List, [], _∷_, _++_, append-assoc, append-nil}
@@ -7,9 +7,9 @@ use native.Mathlib.Omega.{arith}
 use lib.Count.{ones, trailingZeros}
 use lib.Dec.{leb, eqb}
 use lib.ListN.{length, getD, take, drop, set, length-append, length-drop}
-use lib.Seq.{sets, take-take, take-add, drop-at, drop-drop, length-take-le, length-sets}
-use borrow.Author.Tests.{le-leb, lt-leb, ne-eqb}
-use Rattle.meaning.specs.Answer.{Answer, given, refused, bind, need}
+use lib.Seq.{sets, take-take, take-add, drop-at, drop-drop, length-take-le}
+use borrow.Author.Tests.{lt-leb, eqb-true}
+use Rattle.meaning.specs.Answer.{Answer, given, refused, need}
 use Rattle.meaning.specs.Limits.{fault}
 use Rattle.meaning.specs.Lists.{all, sum}
 use Rattle.meaning.specs.Places.{part}
@@ -19,7 +19,7 @@ use Rattle.meaning.specs.G8IU.{blockLengths, blockIn}
 use Rattle.meaning.proofs.Stores.{sets-snoc}
 use Rattle.meaning.proofs.Units.{join}
 use Rattle.fields.proofs.Fields.{held, fields-length}
-use Rattle.g8iu.specs.Blocks.{BlockIs}
+use Rattle.g8iu.specs.Blocks.{lengthsAt, dataAt, blockAt, BlockIs}
 use Rattle.g8iu.specs.declared.taking.Block.the-variants.{Taken, Refused}
 use Rattle.g8iu.proofs.Controls.{control-is}
 use Rattle.g8iu.proofs.Ends.{lengthsOf, FirstIs, first-is, lengths-start, lengths-none}
@@ -51,13 +51,7 @@ module _ (left : ℕ) (ls bytes : List ℕ) where
   unfolding blockIn
   refused-fields e = rw e (simp need-refused)
 
--- ---- the block at an offset of a body: its lengths and its data
-abbrev lengthsAt : List ℕ → ℕ → List ℕ
-lengthsAt body at = blockLengths (getD body at 0)
-
-abbrev dataAt : List ℕ → ℕ → List ℕ
-dataAt body at = take 8 (drop (at + 1) body)
-
+-- ---- the numbers of a block, one after another
 -- numbers have been taken and stored; those still to come end at the ones of `ends`, and their data begins at `from`
 pub record TakeSo (body : List ℕ) (at : ℕ) (out₀ : List ℕ) (to : ℕ) (out : List ℕ) (ends from next : ℕ) : Type 0 where
   pub low : at + 1 ≤ from
@@ -146,15 +140,15 @@ module _ (body : List ℕ) (at : ℕ) (inside : at + 9 ≤ length body) (out₀ 
     take-inside = omega (arith, first .within, so .high)
 
     pub take-refused : (left : ℕ) → eqb (byteLength (numberOf (take len (drop from body)))) len ≡ false
-        → BlockIs (blockIn left (lengthsAt body at) (dataAt body at)) to out₀ out (Refused fault)
+        → BlockIs (blockAt body left at) to out₀ out (Refused fault)
     take-refused left t =
         let e : fieldsIn (lengthsAt body at) (dataAt body at) ≡ refused fault =
         so .rest ∙ rw (first .is, first-refused body from m len (lengthsOf (m - len) (ends / 2 ^ len)) (first .within) (omega (arith, data-left)) t) in
         record { stored = so .taken; here = so .here; says = refused-fields left (lengthsAt body at) (dataAt body at) e }
 
-    -- no number takes more than four bytes
-    pub take-long : (left : ℕ) → 4 < len → BlockIs (blockIn left (lengthsAt body at) (dataAt body at)) to out₀ out (Refused fault)
-    take-long left h = take-refused left (ne-eqb (byteLength (numberOf (take len (drop from body)))) len (λ e. omega (arith, held (numberOf (take len (drop from body))) .most)))
+    -- a number that is taken has at most four bytes
+    pub take-four : eqb (byteLength (numberOf (take len (drop from body)))) len ≡ true → len ≤ 4
+    take-four t = let x = numberOf (take len (drop from body)) in omega (arith, eqb-true (byteLength x) len t, held x .most)
 
     pub take-turn : eqb (byteLength (numberOf (take len (drop from body)))) len ≡ true → (out′ : List ℕ) (x : ℕ) → x ≡ numberOf (take len (drop from body)) → out′ ≡ set out next x
         → TakeSo body at out₀ to out′ (ends / 2 ^ len) (from + len) (next + 1)
@@ -201,16 +195,16 @@ module _ (body : List ℕ) (at : ℕ) (inside : at + 9 ≤ length body) (out₀ 
         field-first body (at + 1) 8 (sum (lengthsAt body at)) (omega (arith, all-sums, so .high)) (omega arith) .1 ∙ rw (k, waste-is)
 
     module _ (left count : ℕ) (counts : count ≡ length (lengthsAt body at)) where
-      pub take-wasteful : leb (at + 9 - from) 3 || eqb count left ≡ false → BlockIs (blockIn left (lengthsAt body at) (dataAt body at)) to out₀ out (Refused fault)
+      pub take-wasteful : leb (at + 9 - from) 3 || eqb count left ≡ false → BlockIs (blockAt body left at) to out₀ out (Refused fault)
       take-wasteful e =
           record { stored = so .taken; here = so .here; says = refused-waste left (lengthsAt body at) (dataAt body at) (rw (← waste-is, ← counts) e) }
 
-      pub take-unclear : all (eqb 0) (part body from (at + 9 - from)) ≡ false → BlockIs (blockIn left (lengthsAt body at) (dataAt body at)) to out₀ out (Refused fault)
+      pub take-unclear : all (eqb 0) (part body from (at + 9 - from)) ≡ false → BlockIs (blockAt body left at) to out₀ out (Refused fault)
       take-unclear e =
           record { stored = so .taken; here = so .here; says = refused-unclear left (lengthsAt body at) (dataAt body at) (rw waste-data e) }
 
       pub take-whole : 1 ≤ count → count ≤ left → leb (at + 9 - from) 3 || eqb count left ≡ true → all (eqb 0) (part body from (at + 9 - from)) ≡ true
-          → BlockIs (blockIn left (lengthsAt body at) (dataAt body at)) to out₀ out (Taken count (at + 9 - from))
+          → BlockIs (blockAt body left at) to out₀ out (Taken count (at + 9 - from))
       take-whole a b w z =
           let n : length (fields (so .taken)) ≡ sum (lengthsAt body at) = fields-length (so .taken) ∙ ap sum (fields-lengths (lengthsAt body at) (dataAt body at) (so .taken) all-taken) in
           let t : Passed left (lengthsAt body at) (dataAt body at) (so .taken) =
@@ -226,8 +220,8 @@ pub counts-is : (c : ℕ) → c < 256 → 8 - ones c ≡ length (blockLengths c)
 counts-is c h = sym (control-is c h .many)
 
 module _ (body : List ℕ) (at left count : ℕ) (counts : count ≡ length (lengthsAt body at)) (out : List ℕ) (to : ℕ) where
-  pub take-none : count < 1 → BlockIs (blockIn left (lengthsAt body at) (dataAt body at)) to out out (Refused fault)
+  pub take-none : count < 1 → BlockIs (blockAt body left at) to out out (Refused fault)
   take-none h = record { stored = []; here = refl; says = refused-none left (lengthsAt body at) (dataAt body at) (rw counts at h) }
 
-  pub take-beyond : left < count → BlockIs (blockIn left (lengthsAt body at) (dataAt body at)) to out out (Refused fault)
+  pub take-beyond : left < count → BlockIs (blockAt body left at) to out out (Refused fault)
   take-beyond h = record { stored = []; here = refl; says = refused-beyond left (lengthsAt body at) (dataAt body at) (rw counts at h) }

@@ -1,16 +1,16 @@
 -- A unit of G8IU: a block that was written reads back, and what reads as numbers is their block. Assumes nothing.
 use Prim.Native.Nat.{ℕ, zero, suc, _+_, _-_, _≤_, _<_}
 use mathlib.Core.Path.{_≡_, refl, sym, ap, ap₂, _∙_, subst}
-use mathlib.Core.Bool.{Bool, true, false, _||_}
+use mathlib.Core.Bool.{Bool, true, _||_}
 use mathlib.Core.List.{List, [], _∷_, _++_, map}
 use native.Mathlib.Nat.{add-zero}
 use native.Mathlib.Numerals.{add-one}
 use native.Mathlib.Omega.{arith}
 use lib.Dec.{leb, eqb}
 use lib.ListN.{length, getD, take, drop, replicate, length-append, length-drop, length-map, take-append-drop}
-use lib.Seq.{getD-drop, drop-drop, take-at, drop-at, drop-append-seam, drop-cons, length-take-le}
+use lib.Seq.{getD-drop, drop-drop, take-at, drop-append-seam, drop-cons, length-take-le}
 use borrow.Author.Tests.{le-leb, leb-true, eqb-true}
-use Rattle.meaning.specs.Answer.{Answer, given, bind, need}
+use Rattle.meaning.specs.Answer.{given}
 use Rattle.meaning.specs.Limits.{fault, numberLimit}
 use Rattle.meaning.specs.Lists.{all, sum}
 use Rattle.meaning.specs.Places.{Below}

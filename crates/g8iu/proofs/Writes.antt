@@ -1,6 +1,6 @@
 -- Writing a list block by block: what is still to be written, put from here on, makes the whole. Assumes nothing.
-use Prim.Native.Nat.{ℕ, suc, _+_, _-_, _*_, _≤_, _<_}
-use mathlib.Core.Path.{_≡_, refl, sym, ap, ap₂, _∙_}
+use Prim.Native.Nat.{ℕ, _+_, _-_, _*_, _≤_, _<_}
+use mathlib.Core.Path.{_≡_, sym, ap, ap₂, _∙_}
 use mathlib.Core.Bool.{false}
 use mathlib.Core.List.{List, [], _∷_, _++_}
 use native.Mathlib.Nat.{add-zero}
@@ -10,7 +10,6 @@ use lib.Seq.{sets, length-sets, take-add, drop-drop}
 use Rattle.meaning.specs.Fields.{fields}
 use Rattle.meaning.specs.G8IU.{fits, block, writeG8IU}
 use Rattle.meaning.specs.Places.{Wrote, part}
-use Rattle.meaning.specs.declared.Offset.{Offset}
 use Rattle.meaning.proofs.Stores.{sets-append}
 use Rattle.meaning.proofs.Tests.{by-order}
 use Rattle.g8iu.specs.Blocks.{PutBlock}

@@ -3,14 +3,24 @@ use Prim.Native.Nat.{ℕ, _+_, _-_, _≤_, _<_}
 use mathlib.Core.Path.{_≡_}
 use mathlib.Core.Bool.{false}
 use mathlib.Core.List.{List}
-use lib.ListN.{length, getD}
+use lib.ListN.{length, getD, take, drop}
 use lib.Seq.{sets}
 use Rattle.meaning.specs.Answer.{Answer, given, refused}
 use Rattle.meaning.specs.Fields.{fields}
-use Rattle.meaning.specs.G8IU.{fits, block}
+use Rattle.meaning.specs.G8IU.{fits, block, blockLengths, blockIn}
 use Rattle.meaning.specs.Places.{part}
 use Rattle.g8iu.specs.declared.taking.Block.{Block}
 use Rattle.g8iu.specs.declared.taking.Block.the-variants.{Taken, Refused}
+
+-- the block at an offset of a body: the lengths that its control byte says, its data, and its numbers, where `left` are still to come
+abbrev pub lengthsAt : List ℕ → ℕ → List ℕ
+lengthsAt body at = blockLengths (getD body at 0)
+
+abbrev pub dataAt : List ℕ → ℕ → List ℕ
+dataAt body at = take 8 (drop (at + 1) body)
+
+abbrev pub blockAt : List ℕ → ℕ → ℕ → Answer (List ℕ)
+blockAt body left at = blockIn left (lengthsAt body at) (dataAt body at)
 
 -- a block's answer, where its numbers are xs
 abbrev pub Says : Answer (List ℕ) → List ℕ → Block → Type 0

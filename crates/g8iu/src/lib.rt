@@ -13,6 +13,7 @@ use meaning::Unit;
 use meaning::UnitRead;
 ghost use Prim.Native.Nat.{_≤_};
 ghost use lib.ListN.{length};
+ghost use Rattle.meaning.specs.Answer.{refused};
 ghost use Rattle.meaning.specs.Codes.{codeG8IU, readCode};
 ghost use Rattle.meaning.specs.Limits.{mostBytes};
 ghost use Rattle.meaning.specs.Places.{Source, Target, Wrote, Got, UnitIs, part};
@@ -36,6 +37,16 @@ pub fn write(list: &[u32], from: Place, n: usize, out: &mut [u8], at: Offset) ->
     Offset { byte: to }
 }
 
+// A unit that is refused has no numbers.
+fn refusal(e: u8) -> UnitRead
+    ensures { λ r. ⌜ UnitIs (refused e) r ⌝ }
+{
+    UnitRead {
+        unit: Unit::Refused(e),
+        numbers: [0u32; 8],
+    }
+}
+
 // Reads the unit at a position: a block.
 pub fn unit(body: &[u8], left: usize, at: Position) -> UnitRead
     requires { ⌜ length (now body) ≤ mostBytes ⌝ }
@@ -43,26 +54,21 @@ pub fn unit(body: &[u8], left: usize, at: Position) -> UnitRead
 {
     let head = at.head;
     let first = head.byte;
-    let mut numbers = [0u32; 8];
     let len = body.len();
     if len < 9 {
-        return UnitRead {
-            unit: Unit::Refused(FAULT),
-            numbers,
-        };
+        return refusal(FAULT);
     }
     if len - 9 < first {
-        return UnitRead {
-            unit: Unit::Refused(FAULT),
-            numbers,
-        };
+        return refusal(FAULT);
     }
+    let next = first + 9;
+    let mut numbers = [0u32; 8];
     let r = take_block(body, first, left, &mut numbers, 0);
     match r {
         Block::Taken(count, _) => UnitRead {
             unit: Unit::Next(
                 Position {
-                    head: Offset { byte: first + 9 },
+                    head: Offset { byte: next },
                     tail: Offset { byte: 0 },
                     bit: Bit { index: 0 },
                 },
@@ -70,10 +76,7 @@ pub fn unit(body: &[u8], left: usize, at: Position) -> UnitRead
             ),
             numbers,
         },
-        Block::Refused(e) => UnitRead {
-            unit: Unit::Refused(e),
-            numbers,
-        },
+        Block::Refused(e) => refusal(e),
     }
 }
 

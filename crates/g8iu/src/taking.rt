@@ -8,9 +8,8 @@ ghost use lib.Dec.{leb, eqb};
 ghost use lib.ListN.{length, getD, take, drop};
 ghost use Rattle.meaning.specs.Bytes.{numberOf};
 ghost use Rattle.meaning.specs.Fields.{byteLength};
-ghost use Rattle.meaning.specs.G8IU.{blockLengths, blockIn};
 ghost use Rattle.meaning.specs.Lists.{all};
-ghost use Rattle.g8iu.specs.Blocks.{BlockIs};
+ghost use Rattle.g8iu.specs.Blocks.{blockAt, BlockIs};
 
 // Fault in a body.
 pub const FAULT: u8 = 9;
@@ -21,11 +20,14 @@ pub enum Block {
     Refused(u8),
 }
 
-// Whether no fewer bytes hold a number of so many bytes: it has one byte, or its last is not 0.
+// Whether a number of so many bytes needs them all: at most 4, and it has one byte or its last is not 0.
 fn is_fewest(bytes: &[u8], at: usize, len: usize) -> bool
-    requires { ⌜ (1 ≤ len) × (len ≤ 4) × (at + len ≤ length (now bytes)) ⌝ }
+    requires { ⌜ (1 ≤ len) × (at + len ≤ length (now bytes)) ⌝ }
     ensures { λ r. ⌜ r ≡ eqb (byteLength (numberOf (take len (drop at (now (bytes .entry)))))) len ⌝ }
 {
+    if 4 < len {
+        return false;
+    }
     let last = bytes[at + (len - 1)];
     if len == 1 {
         return true;
@@ -61,7 +63,7 @@ fn may_waste(waste: usize, count: usize, left: usize) -> bool
 // Takes a block of eight numbers of one byte each, as the control byte 0 says.
 fn take_eight(body: &[u8], at: usize, left: usize, out: &mut [u32], to: usize) -> Block
     requires { ⌜ (at + 9 ≤ length (now body)) × (getD (now body) at 0 ≡ 0) × (to + min 8 left ≤ length (now out)) ⌝ }
-    ensures { λ r. ⌜ BlockIs (blockIn left (blockLengths (getD (now (body .entry)) at 0)) (take 8 (drop (at + 1) (now (body .entry))))) to (now (out .entry)) (now (out .exit)) r ⌝ }
+    ensures { λ r. ⌜ BlockIs (blockAt (now (body .entry)) left at) to (now (out .entry)) (now (out .exit)) r ⌝ }
 {
     if left < 8 {
         return Block::Refused(FAULT);
@@ -78,7 +80,7 @@ fn take_eight(body: &[u8], at: usize, left: usize, out: &mut [u32], to: usize) -
 // Takes the block at an offset, where so many numbers are still to come, and stores its numbers from a place on.
 pub fn take_block(body: &[u8], at: usize, left: usize, out: &mut [u32], to: usize) -> Block
     requires { ⌜ (at + 9 ≤ length (now body)) × (to + min 8 left ≤ length (now out)) ⌝ }
-    ensures { λ r. ⌜ BlockIs (blockIn left (blockLengths (getD (now (body .entry)) at 0)) (take 8 (drop (at + 1) (now (body .entry))))) to (now (out .entry)) (now (out .exit)) r ⌝ }
+    ensures { λ r. ⌜ BlockIs (blockAt (now (body .entry)) left at) to (now (out .entry)) (now (out .exit)) r ⌝ }
 {
     let control = body[at];
     // The block of small numbers, which needs no ends.
@@ -98,9 +100,6 @@ pub fn take_block(body: &[u8], at: usize, left: usize, out: &mut [u32], to: usiz
     let mut next = to;
     while ends != 0 {
         let len = u32::trailing_zeros(ends) as usize + 1;
-        if 4 < len {
-            return Block::Refused(FAULT);
-        }
         if !is_fewest(body, from, len) {
             return Block::Refused(FAULT);
         }

@@ -1,23 +1,26 @@
 -- What the loop of a strict reading knows, for every code of groups. Assumes nothing.
 use Prim.Native.Nat.{ℕ, _+_, _-_, _≤_, _<_, min}
 use mathlib.Core.Path.{_≡_, refl, sym, ap, _∙_, subst}
-use mathlib.Core.Bool.{Bool, true, false}
+use mathlib.Core.Bool.{Bool}
 use mathlib.Core.List.{List, []}
 use native.Mathlib.Omega.{arith}
 use lib.ListN.{length, take}
 use lib.Seq.{sets, length-take-le}
 use borrow.Author.Tests.{le-leb, lt-leb}
-use Rattle.meaning.specs.Answer.{Answer, given, refused, amount}
+use Rattle.meaning.specs.Answer.{Answer, given, refused, need, amount}
 use Rattle.meaning.specs.Codes.{codeGroups, codeStream, readCode, always, toLast}
 use Rattle.meaning.specs.Groups.{groupCount, groupAt, unitGroups, unitStream}
 use Rattle.meaning.specs.Limits.{fault}
 use Rattle.meaning.specs.Places.{Got}
+use Rattle.meaning.specs.Says.{readingSays}
 use Rattle.meaning.specs.Positions.{atByte, atControl}
 use Rattle.meaning.specs.Units.{readUnits}
 use Rattle.meaning.specs.declared.Offset.{Offset}
 use Rattle.meaning.specs.declared.Position.{Position}
-use Rattle.meaning.specs.declared.Reading.the-variants.{Whole, Refused}
+use Rattle.meaning.specs.declared.Reading.{Reading}
+use Rattle.meaning.specs.declared.Reading.the-variants.{Refused}
 use Rattle.meaning.proofs.Answers.{not-given}
+use Rattle.meaning.proofs.Tests.{by-test}
 use Rattle.meaning.proofs.Loops.{ReadSo, read-start, read-turn, read-refuse, read-end, got-refused, got-whole}
 use Rattle.groups.specs.Group.{GroupIs}
 use Rattle.groups.specs.declared.group.Group.the-variants as group
@@ -57,7 +60,7 @@ module _ (g : Layout) (body : List ℕ) (done : Position → Bool) (n : ℕ) (p�
   pub reads-start : Reads g body done n p₀ w₀ from w₀ 0 p₀
   reads-start = record { before = []; so = read-start (unitBy g body) always done n p₀ w₀ from }
 
-  module _ (w : List ℕ) (i : ℕ) (p : Position) (r : Reads g body done n p₀ w₀ from w i p) where
+  module _ (w : List ℕ) (i : ℕ) (p : Position) (so : Reads g body done n p₀ w₀ from w i p) where
     pub reads-turn : (end k : ℕ) (ns w′ : List ℕ) → from + n ≤ length w₀ → i < n → Turn body (n - i) (g .head p) (g .from p) end k ns → w′ ≡ sets w (from + i) (take k ns)
         → Reads g body done n p₀ w₀ from w′ (i + k) (g .next p end)
     reads-turn end k ns w′ fits more t ew =
@@ -65,24 +68,25 @@ module _ (g : Layout) (body : List ℕ) (done : Position → Bool) (n : ℕ) (p�
           before = take k ns;
           so =
               subst (λ (m : ℕ). ReadSo (unitBy g body) always done n p₀ w₀ from w′ (i + m) (take k ns) (g .next p end)) (t .size)
-              (read-turn (unitBy g body) always done n p₀ w₀ from (good g body) w i (r .before) p (r .so) (g .next p end, take k ns) w′ fits more (rw (t .is)) refl ew);
+              (read-turn (unitBy g body) always done n p₀ w₀ from (good g body) w i (so .before) p (so .so) (g .next p end, take k ns) w′ fits more (rw (t .is)) refl ew);
         }
 
     -- ---- what the loop answers
     module _ (a : Answer (List ℕ)) (is : a ≡ readUnits (unitBy g body) always done n [] p₀) where
       pub reads-refused : (z : ℕ) → i < n → groupAt body (n - i) (g .head p) (g .from p) ≡ refused z → Got a from w₀ w (Refused z)
       reads-refused z more e =
-          got-refused (unitBy g body) always done n p₀ w₀ from (good g body) w i (r .before) p (r .so) a is z
-          (is ∙ read-refuse (unitBy g body) always done n p₀ w₀ from (good g body) w i (r .before) p (r .so) z more (rw e))
+          got-refused (unitBy g body) always done n p₀ w₀ from (good g body) w i (so .before) p (so .so) a is z
+          (is ∙ read-refuse (unitBy g body) always done n p₀ w₀ from (good g body) w i (so .before) p (so .so) z more (rw e))
 
-      -- something is left over
-      pub reads-left : n ≤ i → done p ≡ false → Got a from w₀ w (Refused fault)
-      reads-left all d =
-          got-refused (unitBy g body) always done n p₀ w₀ from (good g body) w i (r .before) p (r .so) a is fault
-          (is ∙ read-end (unitBy g body) always done n p₀ w₀ from (good g body) w i (r .before) p (r .so) all ∙ rw d)
-
-      pub reads-whole : n ≤ i → done p ≡ true → Got a from w₀ w (Whole n)
-      reads-whole all d = got-whole (unitBy g body) always done n p₀ w₀ from (good g body) w i (r .before) p (r .so) a is all d
+      -- all is read, and what r says depends on whether something is left over
+      pub reads-end : (r : Reading) → n ≤ i → readingSays r ≡ need (done p) fault (given n) → Got a from w₀ w r
+      reads-end r all h =
+          by-test (done p)
+          (λ d. let g = got-whole (unitBy g body) always done n p₀ w₀ from (good g body) w i (so .before) p (so .so) a is all d in
+          record { told = h ∙ rw d (g .told); here = g .here; kept = g .kept })
+          (λ d. let e = is ∙ read-end (unitBy g body) always done n p₀ w₀ from (good g body) w i (so .before) p (so .so) all ∙ rw d in
+          let g = got-refused (unitBy g body) always done n p₀ w₀ from (good g body) w i (so .before) p (so .so) a is fault e in
+          record { told = h ∙ rw d (g .told); here = g .here; kept = g .kept })
 
 -- ---- each code's reading is such a loop
 pub groups-reading : (body : List ℕ) (n : ℕ) → readCode codeGroups body n ≡ readUnits (unitBy behind body) always (toLast body) n [] (atByte 0)

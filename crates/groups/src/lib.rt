@@ -18,11 +18,14 @@ use meaning::UnitRead;
 ghost use mathlib.Core.Path.{_≡_};
 ghost use mathlib.Core.List.{_++_};
 ghost use Prim.Native.Nat.{_+_, _≤_};
+ghost use lib.Dec.{eqb};
 ghost use lib.ListN.{length, take, replicate};
 ghost use lib.Seq.{sets};
+ghost use Rattle.meaning.specs.Answer.{given, need};
 ghost use Rattle.meaning.specs.Codes.{codeGroups, codeStream, readCode};
 ghost use Rattle.meaning.specs.Groups.{groupCount};
-ghost use Rattle.meaning.specs.Limits.{mostBytes};
+ghost use Rattle.meaning.specs.Limits.{mostBytes, fault};
+ghost use Rattle.meaning.specs.Says.{readingSays};
 ghost use Rattle.meaning.specs.Places.{Source, Target, Wrote, Got, UnitIs, part};
 
 mod group;
@@ -45,9 +48,10 @@ pub fn write_groups(list: &[u32], from: Place, n: usize, out: &mut [u8], at: Off
     let mut i: usize = 0;
     while i < n {
         let k = at_most_four(n - i);
-        let next = Place { number: first + i };
-        put(out, to, control_of(list, next, k));
-        let end = put_fields(list, next, k, out, Offset { byte: to + 1 });
+        let place = first + i;
+        put(out, to, control_of(list, Place { number: place }, k));
+        let data = to + 1;
+        let end = put_fields(list, Place { number: place }, k, out, Offset { byte: data });
         to = end.byte;
         i += k;
     }
@@ -83,10 +87,8 @@ pub fn unit_groups(body: &[u8], left: usize, at: Position) -> UnitRead
             numbers,
         };
     }
-    let behind = Offset {
-        byte: head.byte + 1,
-    };
-    let r = group_at(body, left, head, behind);
+    let data = head.byte + 1;
+    let r = group_at(body, left, head, Offset { byte: data });
     let group = r.group;
     let four = r.numbers;
     let numbers = widened(four);
@@ -122,10 +124,9 @@ pub fn unit_stream(body: &[u8], left: usize, at: Position) -> UnitRead
     let numbers = widened(four);
     match group {
         Group::Ends(end, k) => {
+            let control = head.byte + 1;
             let next = Position {
-                head: Offset {
-                    byte: head.byte + 1,
-                },
+                head: Offset { byte: control },
                 tail: end,
                 bit: Bit { index: 0 },
             };
@@ -168,6 +169,16 @@ fn store(work: &mut [u32], from: Place, k: usize, numbers: [u32; 4])
     work[at + 2] = numbers[2];
 }
 
+// All n numbers are read: nothing of the body may be left over.
+fn ended(n: usize, at: Offset, len: usize) -> Reading
+    ensures { λ r. ⌜ readingSays r ≡ need (eqb (at .byte) len) fault (given n) ⌝ }
+{
+    if at.byte == len {
+        return Reading::Whole(n);
+    }
+    Reading::Refused(FAULT)
+}
+
 // Reads a whole body of n numbers in groups of four into work, from a place on.
 pub fn read_groups(body: &[u8], n: usize, work: &mut [u32], from: Place) -> Reading
     requires { ⌜ Target (now body) (now work) (from .number) n ⌝ }
@@ -177,22 +188,21 @@ pub fn read_groups(body: &[u8], n: usize, work: &mut [u32], from: Place) -> Read
     let mut i: usize = 0;
     let mut at: usize = 0;
     while i < n {
-        let r = group_at(body, n - i, Offset { byte: at }, Offset { byte: at + 1 });
+        let data = at + 1;
+        let r = group_at(body, n - i, Offset { byte: at }, Offset { byte: data });
         let group = r.group;
         let numbers = r.numbers;
         match group {
             Group::Ends(end, k) => {
-                store(work, Place { number: first + i }, k, numbers);
+                let place = first + i;
+                store(work, Place { number: place }, k, numbers);
                 i += k;
                 at = end.byte;
             }
             Group::Refused(e) => return Reading::Refused(e),
         }
     }
-    if at == body.len() {
-        return Reading::Whole(n);
-    }
-    Reading::Refused(FAULT)
+    ended(n, Offset { byte: at }, body.len())
 }
 
 // Reads a whole body of n numbers in Stream VByte into work, from a place on.
@@ -214,7 +224,8 @@ pub fn read_stream(body: &[u8], n: usize, work: &mut [u32], from: Place) -> Read
         let numbers = r.numbers;
         match group {
             Group::Ends(end, k) => {
-                store(work, Place { number: first + i }, k, numbers);
+                let place = first + i;
+                store(work, Place { number: place }, k, numbers);
                 i += k;
                 at += 1;
                 to = end.byte;
@@ -222,8 +233,5 @@ pub fn read_stream(body: &[u8], n: usize, work: &mut [u32], from: Place) -> Read
             Group::Refused(e) => return Reading::Refused(e),
         }
     }
-    if to == body.len() {
-        return Reading::Whole(n);
-    }
-    Reading::Refused(FAULT)
+    ended(n, Offset { byte: to }, body.len())
 }

@@ -55,7 +55,8 @@ pub fn put_controls(list: &[u32], from: Place, n: usize, out: &mut [u8], at: Off
     let mut i: usize = 0;
     while i < n {
         let k = at_most_four(n - i);
-        put(out, to, control_of(list, Place { number: first + i }, k));
+        let place = first + i;
+        put(out, to, control_of(list, Place { number: place }, k));
         to += 1;
         i += k;
     }

@@ -14,10 +14,16 @@ ghost use Rattle.table.specs.Rules.{entryHolds};
 // The edition and the number of columns stand before the entries.
 const HEAD_SIZE: usize = 2;
 
-// An entry: its kind, then its plan, its count and its body's length.
+// An entry: its kind, its plan, its count and its body's length.
 const ENTRY_SIZE: usize = 24;
+
+// Where its plan stands in an entry.
 const PLAN_IN: usize = 1;
+
+// Where its count stands.
 const COUNT_IN: usize = 16;
+
+// Where its body's length stands.
 const SIZE_IN: usize = 20;
 
 // Rising, the largest kind.
@@ -39,7 +45,9 @@ pub fn entry_start(column: usize) -> Offset
     requires { ⌜ entryOffset column < 2 ^ 64 ⌝ }
     ensures { λ r. ⌜ r .byte ≡ entryOffset column ⌝ }
 {
-    Offset { byte: HEAD_SIZE + ENTRY_SIZE * column }
+    let entries = ENTRY_SIZE * column;
+    let byte = HEAD_SIZE + entries;
+    Offset { byte }
 }
 
 // Where a column's plan begins.
@@ -48,7 +56,8 @@ pub fn plan_start(column: usize) -> Offset
     ensures { λ r. ⌜ r .byte ≡ 3 + entrySize * column ⌝ }
 {
     let start = entry_start(column);
-    Offset { byte: start.byte + PLAN_IN }
+    let byte = start.byte + PLAN_IN;
+    Offset { byte }
 }
 
 // A column's kind.

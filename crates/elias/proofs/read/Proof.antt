@@ -61,7 +61,7 @@ returns c =
     (refuse (a .form) (a .body .now) (a .n) (a .work .now) (a .from .number) (l .work) (l .i) (l .p) (l .inv) z (c .before .before .before .before .loop-test .taken) (sym (c .before .before .before .word-at .ensures) ∙ ap wordSays told))
 
 sub-work : tie.Need-sub-work Inv-loop μ-loop
-sub-work c = bounds (c .before) .some
+sub-work c = omega (arith, bounds (c .before) .some)
 
 cast-work : tie.Need-cast-work Inv-loop μ-loop
 cast-work c = omega (arith, bounds (c .before) .some, bounds (c .before) .few)

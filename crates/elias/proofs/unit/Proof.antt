@@ -43,7 +43,7 @@ returns c =
     }
 
 sub-numbers : tie.Need-sub-numbers
-sub-numbers c = bounds (c .before) .some
+sub-numbers c = omega (arith, bounds (c .before) .some)
 
 cast-numbers : tie.Need-cast-numbers
 cast-numbers c = omega (arith, bounds (c .before) .some, bounds (c .before) .few)

@@ -1,25 +1,19 @@
+-- `read` takes block after block into work, and carries the room that the block before left (`Readings`). Assumes nothing.
 use Prim.Native.Nat.{_+_, _-_, _≤_, _<_}
 use mathlib.Core.Path.{_∙_}
 use native.Mathlib.Omega.{arith}
-use borrow.Author.Needs.{needs}
 use lib.ListN.{length}
+use borrow.Author.Needs.{needs}
 use Rattle.g8iu.proofs.Readings.{RoomSo, room-start, room-short, room-fault, room-some, room-few, room-full, room-turn, room-whole, room-over}
 use Rattle.g8iu.proofs.read.Statement.{statement}
 use Rattle.g8iu.proofs.read.Tie as tie
-use Rattle.g8iu.proofs.read.Reads as reads
-use Rattle.g8iu.proofs.read.Lts as lts
-use Rattle.fields.proofs.byte_length.Reads as byte-length-reads
-use Rattle.g8iu.proofs.taking.take_block.Reads as take-block-reads
 
 abbrev Inv-loop : tie.InvT-loop
-Inv-loop body n work₀ first i₀ at₀ room₀ work i at room =
-    RoomSo body n work₀ first work i at room
+Inv-loop body n work₀ first i₀ at₀ room₀ work i at room = RoomSo body n work₀ first work i at room
 
 abbrev μ-loop : tie.MeasureT-loop
-μ-loop body n work₀ first i₀ at₀ room₀ work i at room =
-    n - i
+μ-loop body n work₀ first i₀ at₀ room₀ work i at room = n - i
 
--- src/lib.rt:89:5
 -- the block lies within the body
 inside : (c : tie.Else1 Inv-loop μ-loop) → c .before .before .loop .at + 9 ≤ length (c .before .before .before .before .before .args .body .now)
 inside c = omega (arith, c .if1 .left, c .before .before .loop .inv .inside)
@@ -36,126 +30,87 @@ loop-holds c =
     let a = c .before .before .args in
     room-start (a .body .now) (a .n) (a .work .now) (a .from .number)
 
--- src/lib.rt:90:12
 sub-if1 : tie.Need-sub-if1 Inv-loop μ-loop
-sub-if1 c =
-    c .before .loop .inv .inside
+sub-if1 c = c .before .loop .inv .inside
 
--- src/lib.rt:91:13
 same-length : tie.Need-same-length Inv-loop μ-loop
-same-length c =
-    c .before .before .loop .inv .so .long
+same-length c = c .before .before .loop .inv .so .long
 
--- src/lib.rt:91:13
 returns : tie.Need-returns Inv-loop μ-loop
-returns c =
-    room-short _ _ _ _ (c .before .before .before .before .before .pre .inside) _ _ _ _ (c .before .before .loop .inv) (c .before .loop-test .taken) (c .if1 .taken)
+returns c = room-short _ _ _ _ (c .before .before .before .before .before .pre .inside) _ _ _ _ (c .before .before .loop .inv) (c .before .loop-test .taken) (c .if1 .taken)
 
--- src/lib.rt:93:38
 sub-take-block : tie.Need-sub-take-block Inv-loop μ-loop
-sub-take-block c =
-    omega arith
+sub-take-block c = omega arith
 
--- src/lib.rt:93:51
 add-take-block : tie.Need-add-take-block Inv-loop μ-loop
-add-take-block c =
-    omega (arith, c .before .before .before .before .before .before .pre .inside)
+add-take-block c = omega (arith, c .before .before .before .before .before .before .pre .inside)
 
--- src/lib.rt:93:13
 take-block-requires : tie.Need-take-block-requires Inv-loop μ-loop
 take-block-requires c κs =
     let so = c .before .before .before .loop .inv in
     (omega (arith, so .inside), omega (arith, so .so .long, c .before .before .before .before .before .before .pre .inside))
 
--- src/lib.rt:95:26
 enum-known-r : tie.Need-enum-known-r Inv-loop μ-loop
-enum-known-r c =
-    search needs
+enum-known-r c = search needs
 
--- src/lib.rt:96:37
 add-byte-length : tie.Need-add-byte-length Inv-loop μ-loop
-add-byte-length c =
-    omega (arith, c .before .before .before .before .before .before .before .before .before .before .before .before .pre .inside)
+add-byte-length c = omega (arith, c .before .before .before .before .before .before .before .before .before .before .before .before .pre .inside)
 
--- src/lib.rt:96:32
 mul-byte-length : tie.Need-mul-byte-length Inv-loop μ-loop
 mul-byte-length c =
     omega (arith, c .before .before .before .before .before .before .before .before .before .before .before .before .pre .inside, c .before .before .before .before .before .before .before .before .before .before .before .before .good .1 .1 .0 .1)
 
--- src/lib.rt:96:32
 slice-read-byte-length : tie.Need-slice-read-byte-length Inv-loop μ-loop
 slice-read-byte-length c =
     omega (arith, c .before .before .before .before .before .before .take-block .kept .1 .1 .1 .0, c .before .before .before .before .before .before .before .before .before .before .loop .inv .so .long, c .before .before .before .before .before .before .before .before .before .before .before .before .before .pre .inside)
 
--- src/lib.rt:96:20
 byte-length-requires : tie.Need-byte-length-requires Inv-loop μ-loop
-byte-length-requires c κs =
-    search needs
+byte-length-requires c κs = search needs
 
--- src/lib.rt:97:21
 same-length-2 : tie.Need-same-length-2 Inv-loop μ-loop
 same-length-2 c =
     c .before .before .before .before .before .before .before .before .take-block .kept .1 .1 .1 .0 ∙ c .before .before .before .before .before .before .before .before .before .before .before .before .loop .inv .so .long
 
--- src/lib.rt:97:21
 returns-2 : tie.Need-returns-2 Inv-loop μ-loop
 returns-2 c =
     room-full _ _ _ _ (c .before .before .before .before .before .before .before .before .before .before .before .before .before .before .before .pre .inside) _ _ _ _ (c .before .before .before .before .before .before .before .before .before .before .before .before .loop .inv) (c .before .before .before .before .before .before .before .before .before .before .before .loop-test .taken) (inside (c .before .before .before .before .before .before .before .before .before .before)) _ _ (c .before .before .before .before .before .before .before .before .take-block .ensures) _ _ (c .before .before .before .before .r .given .1) _ (c .before .byte-length .ensures) (c .if2 .taken)
 
--- src/lib.rt:99:17
 add-i : tie.Need-add-i Inv-loop μ-loop
 add-i c =
     omega (arith, few (c .before .before .before), c .before .before .before .before .before .before .before .before .before .before .before .before .before .before .before .pre .inside)
 
--- src/lib.rt:100:17
 add-at : tie.Need-add-at Inv-loop μ-loop
 add-at c =
     omega (arith, c .before .before .before .before .before .before .before .before .before .before .before .before .before .before .before .pre .short, inside (c .before .before .before .before .before .before .before .before .before .before))
 
--- src/lib.rt:89:5
 loop-less : tie.Need-loop-less Inv-loop μ-loop
-loop-less c =
-    omega (arith, few (c .before .before .before))
+loop-less c = omega (arith, few (c .before .before .before))
 
--- src/lib.rt:89:5
 loop-again : tie.Need-loop-again Inv-loop μ-loop
 loop-again c =
     room-turn _ _ _ _ (c .before .before .before .before .before .before .before .before .before .before .before .before .before .before .before .pre .inside) _ _ _ _ (c .before .before .before .before .before .before .before .before .before .before .before .before .loop .inv) (c .before .before .before .before .before .before .before .before .before .before .before .loop-test .taken) (inside (c .before .before .before .before .before .before .before .before .before .before)) _ _ (c .before .before .before .before .before .before .before .before .take-block .ensures) _ _ (c .before .before .before .before .r .given .1) _ (c .before .byte-length .ensures) (c .if2 .left)
 
--- src/lib.rt:103:28
 enum-known-r-2 : tie.Need-enum-known-r-2 Inv-loop μ-loop
-enum-known-r-2 c =
-    search needs
+enum-known-r-2 c = search needs
 
--- src/lib.rt:103:34
 same-length-3 : tie.Need-same-length-3 Inv-loop μ-loop
-same-length-3 c =
-    c .before .before .before .before .before .take-block .kept .1 .1 .1 .0 ∙ c .before .before .before .before .before .before .before .before .before .loop .inv .so .long
+same-length-3 c = c .before .before .before .before .before .take-block .kept .1 .1 .1 .0 ∙ c .before .before .before .before .before .before .before .before .before .loop .inv .so .long
 
--- src/lib.rt:103:34
 returns-3 : tie.Need-returns-3 Inv-loop μ-loop
 returns-3 c =
     room-fault _ _ _ _ (c .before .before .before .before .before .before .before .before .before .before .before .before .pre .inside) _ _ _ _ (c .before .before .before .before .before .before .before .before .before .loop .inv) (c .before .before .before .before .before .before .before .before .loop-test .taken) (inside (c .before .before .before .before .before .before .before)) _ _ (c .before .before .before .before .before .take-block .ensures) _ (c .before .r2 .given .1)
 
--- src/lib.rt:107:9
 same-length-4 : tie.Need-same-length-4 Inv-loop μ-loop
-same-length-4 c =
-    c .before .before .loop .inv .so .long
+same-length-4 c = c .before .before .loop .inv .so .long
 
--- src/lib.rt:107:9
 returns-4 : tie.Need-returns-4 Inv-loop μ-loop
-returns-4 c =
-    room-whole _ _ _ _ (c .before .before .before .before .before .pre .inside) _ _ _ _ (c .before .before .loop .inv) (c .before .loop-test .left) (c .if3 .taken)
+returns-4 c = room-whole _ _ _ _ (c .before .before .before .before .before .pre .inside) _ _ _ _ (c .before .before .loop .inv) (c .before .loop-test .left) (c .if3 .taken)
 
--- src/lib.rt:81:1
 same-length-5 : tie.Need-same-length-5 Inv-loop μ-loop
-same-length-5 c =
-    c .before .before .loop .inv .so .long
+same-length-5 c = c .before .before .loop .inv .so .long
 
--- src/lib.rt:81:1
 returns-5 : tie.Need-returns-5 Inv-loop μ-loop
-returns-5 c =
-    room-over _ _ _ _ (c .before .before .before .before .before .pre .inside) _ _ _ _ (c .before .before .loop .inv) (c .before .loop-test .left) (c .if3 .left)
+returns-5 c = room-over _ _ _ _ (c .before .before .before .before .before .pre .inside) _ _ _ _ (c .before .before .loop .inv) (c .before .loop-test .left) (c .if3 .left)
 
 pub read-spec : {M : Type 1} → statement M
 read-spec =

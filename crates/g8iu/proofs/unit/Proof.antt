@@ -1,48 +1,47 @@
+-- `unit` tests the offset against the body's length, then takes the block there into the array. Assumes nothing.
 use Prim.Native.Nat.{_+_, _≤_}
 use mathlib.Core.Path.{refl}
 use native.Mathlib.Omega.{arith}
 use lib.ListN.{length}
-use Rattle.g8iu.proofs.Readings.{unit-short, unit-refused, unit-taken, count-is, unit-few, unit-none, unit-next}
 use borrow.Author.Needs.{needs}
+use Rattle.g8iu.proofs.Readings.{unit-short, unit-refused, unit-taken, count-is, unit-few, unit-none, unit-next}
 use Rattle.g8iu.proofs.unit.Statement.{statement}
 use Rattle.g8iu.proofs.unit.Tie as tie
-use Rattle.g8iu.proofs.unit.Reads as reads
-use Rattle.g8iu.proofs.unit.Lts as lts
-use Rattle.g8iu.proofs.taking.take_block.Reads as take-block-reads
 
--- src/lib.rt:49:9
+refusal-requires : tie.Need-refusal-requires
+refusal-requires c κs = search needs
+
 returns : tie.Need-returns
 returns c =
-    let a = c .before .before .before .args in
-    unit-none (a .body .now) (a .left) (a .at) _ _ (unit-short (a .body .now) (a .left) (a .at) (omega arith))
+    let a = c .before .before .before .before .args in
+    unit-none (a .body .now) (a .left) (a .at) _ _ (unit-short (a .body .now) (a .left) (a .at) (omega arith)) (c .refusal .ensures)
 
--- src/lib.rt:55:9
+refusal-requires-2 : tie.Need-refusal-requires-2
+refusal-requires-2 c κs = search needs
+
 returns-2 : tie.Need-returns-2
 returns-2 c =
-    let a = c .before .before .before .before .args in
-    unit-none (a .body .now) (a .left) (a .at) _ _ (unit-short (a .body .now) (a .left) (a .at) (omega arith))
+    let a = c .before .before .before .before .before .args in
+    unit-none (a .body .now) (a .left) (a .at) _ _ (unit-short (a .body .now) (a .left) (a .at) (omega arith)) (c .refusal2 .ensures)
 
--- src/lib.rt:60:43
+add-next : tie.Need-add-next
+add-next c = search needs
+
 slice-aggregate-take-block : tie.Need-slice-aggregate-take-block
 slice-aggregate-take-block c = search needs
 
--- src/lib.rt:60:9
 take-block-requires : tie.Need-take-block-requires
 take-block-requires c κs = search needs
 
--- src/lib.rt:62:22
 enum-known-r : tie.Need-enum-known-r
 enum-known-r c = search needs
 
--- src/lib.rt:65:42
-add-t20 : tie.Need-add-t20
-add-t20 c = search needs
-
--- src/lib.rt:73:24
 enum-known-r-2 : tie.Need-enum-known-r-2
 enum-known-r-2 c = search needs
 
--- src/lib.rt:40:1
+refusal-requires-3 : tie.Need-refusal-requires-3
+refusal-requires-3 c κs = search needs
+
 returns-3 : tie.Need-returns-3
 returns-3 c =
     let a = c .before .before .before .before .before .before .before .before .before .before .args in
@@ -54,24 +53,26 @@ returns-3 c =
     (unit-few (a .body .now) (a .left) (a .at) _ (c .before .before .before .before .before .before .before .before .before .shared-slice-known .given (a .at .head .byte) .fits) e)
     (count-is (a .body .now) (a .left) (a .at) inside _ _ _ _ (b .ensures) _ _ q) (b .ensures .here) e
 
--- src/lib.rt:40:1
 returns-4 : tie.Need-returns-4
 returns-4 c =
-    let a = c .before .before .before .before .before .before .before .before .before .before .args in
-    let b = c .before .before .before .before .take-block in
+    let a = c .before .before .before .before .before .before .before .before .before .before .before .args in
+    let b = c .before .before .before .before .before .take-block in
     let inside : a .at .head .byte + 9 ≤ length (a .body .now) = omega arith in
-    unit-none (a .body .now) (a .left) (a .at) _ _ (unit-refused (a .body .now) (a .left) (a .at) inside _ _ _ _ (b .ensures) _ (c .before .r2 .given .1))
+    unit-none (a .body .now) (a .left) (a .at) _ _ (unit-refused (a .body .now) (a .left) (a .at) inside _ _ _ _ (b .ensures) _ (c .before .before .r2 .given .1)) (c .refusal3 .ensures)
 
 pub unit-spec : {M : Type 1} → statement M
 unit-spec =
     tie.close
     (tie.spec
+    refusal-requires
     returns
+    refusal-requires-2
     returns-2
+    add-next
     slice-aggregate-take-block
     take-block-requires
     enum-known-r
-    add-t20
     enum-known-r-2
+    refusal-requires-3
     returns-3
     returns-4)

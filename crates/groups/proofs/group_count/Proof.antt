@@ -1,3 +1,4 @@
+-- A quotient rounded up, with no sum that could wrap. Assumes nothing.
 use native.Mathlib.Omega.{arith}
 use Rattle.meaning.specs.Groups.{groupCount}
 use borrow.Author.Needs.{needs}

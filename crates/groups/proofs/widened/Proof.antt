@@ -1,3 +1,4 @@
+-- Four numbers and four zeros. Assumes nothing.
 use mathlib.Core.Path.{_≡_, ap}
 use mathlib.Core.List.{_++_}
 use lib.ListN.{length, replicate}

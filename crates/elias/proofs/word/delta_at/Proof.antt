@@ -7,12 +7,11 @@ use lib.ListN.{length, drop, take, length-drop}
 use lib.Seq.{drop-drop}
 use Rattle.meaning.specs.Answer.{given}
 use Rattle.meaning.specs.Bits.{bitsOf, numberHigh}
-use Rattle.meaning.specs.Elias.{gammaBits, gammaIn}
+use Rattle.meaning.specs.Elias.{gammaIn}
 use Rattle.meaning.proofs.Bounds.{below-drop}
 use Rattle.elias.specs.Says.{wordSays}
-use Rattle.elias.proofs.Codewords.{Back}
 use Rattle.elias.proofs.Gamma.{gamma-back}
-use Rattle.elias.proofs.Pack.{bits-length, bits-below}
+use Rattle.elias.proofs.Pack.{bits-left, bits-below}
 use Rattle.elias.proofs.Seen.{delta-refused, delta-short, delta-value, one-before, one-before-fits}
 use borrow.Author.Needs.{needs}
 use Rattle.elias.proofs.word.delta_at.Statement.{statement}
@@ -42,14 +41,14 @@ bounds c =
     let s = c .before .before .before .before .args .body .now in
     let p = c .before .before .before .before .args .p in
     let b = gamma-back 5 33 (bits c) (long c, size c) (omega arith) (below-drop 2 p (bitsOf s) (bits-below s)) (first c) in
-    record { some = b .some; few = b .few; within = omega (arith, b .within, length-drop p (bitsOf s), bits-length s) }
+    record { some = b .some; few = b .few; within = omega (arith, b .within, bits-left p s) }
 
 -- how many bits are left behind it
 left : (c : tie.After-first) → length (drop (size c) (bits c)) ≡ 8 * length (c .before .before .before .before .args .body .now) - c .before .before .before .before .args .p - size c
 left c =
     let s = c .before .before .before .before .args .body .now in
     let p = c .before .before .before .before .args .p in
-    omega (arith, length-drop (size c) (bits c), length-drop p (bitsOf s), bits-length s)
+    omega (arith, length-drop (size c) (bits c), bits-left p s)
 
 gamma-in-requires : tie.Need-gamma-in-requires
 gamma-in-requires c κs = search needs
@@ -68,7 +67,7 @@ returns c =
     told ∙ delta-refused (drop (a .p) (bitsOf (a .body .now))) z (sym (c .before .before .gamma-in .ensures) ∙ told)
 
 sub-n : tie.Need-sub-n
-sub-n c = bounds (c .before) .some
+sub-n c = omega (arith, bounds (c .before) .some)
 
 mul-left : tie.Need-mul-left
 mul-left c = search needs
@@ -100,7 +99,7 @@ add-within c =
     let q : ℕ = size (c .before .before .before) in
     record {
       fits = one-before-fits (long (c .before .before .before) - 1) (c .take-bits .result) (drop (p + q) (bitsOf s)) (omega (arith, bounds (c .before .before .before) .few))
-          (omega (arith, c .before .if1 .left, length-drop (p + q) (bitsOf s), bits-length s, bounds (c .before .before .before) .within)) (c .take-bits .ensures) (below-drop 2 (p + q) (bitsOf s) (bits-below s));
+          (omega (arith, c .before .if1 .left, bits-left (p + q) s, bounds (c .before .before .before) .within)) (c .take-bits .ensures) (below-drop 2 (p + q) (bitsOf s) (bits-below s));
     }
 
 add-within-2 : tie.Need-add-within-2

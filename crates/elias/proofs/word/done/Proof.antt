@@ -1,8 +1,6 @@
 -- `done` meets its contract: seven bits show whether those that are left are 0. Assumes nothing.
 use native.Mathlib.Omega.{arith}
-use lib.ListN.{length-drop}
-use Rattle.meaning.specs.Bits.{bitsOf}
-use Rattle.elias.proofs.Pack.{bits-length}
+use Rattle.elias.proofs.Pack.{bits-left}
 use Rattle.elias.proofs.Seen.{seen-more, seen-done}
 use borrow.Author.Needs.{needs}
 use Rattle.elias.proofs.word.done.Statement.{statement}
@@ -17,7 +15,7 @@ sub-left c = search needs
 returns : tie.Need-returns
 returns c =
     let a = c .before .before .args in
-    seen-more 0 (a .p) (a .body .now) (omega (arith, c .if1 .taken, length-drop (a .p) (bitsOf (a .body .now)), bits-length (a .body .now)))
+    seen-more (a .p) (a .body .now) (omega (arith, c .if1 .taken, bits-left (a .p) (a .body .now)))
 
 peek-requires : tie.Need-peek-requires
 peek-requires c κs = search needs
@@ -28,8 +26,8 @@ top-requires c κs = search needs
 returns-2 : tie.Need-returns-2
 returns-2 c =
     let a = c .before .before .before .before .args in
-    seen-done (c .before .peek .result) (a .p) (a .body .now) (c .top .result) (c .before .peek .ensures)
-    (omega (arith, c .before .before .if1 .left, length-drop (a .p) (bitsOf (a .body .now)), bits-length (a .body .now))) (c .top .ensures)
+    seen-done (a .p) (a .body .now) (c .before .peek .result) (c .top .result) (c .before .peek .ensures)
+    (omega (arith, c .before .before .if1 .left, bits-left (a .p) (a .body .now))) (c .top .ensures)
 
 pub done-spec : {M : Type 1} → statement M
 done-spec = tie.close (tie.spec mul-left sub-left returns peek-requires top-requires returns-2)

@@ -3,9 +3,9 @@ use mathlib.Core.Path.{_∙_}
 use Prim.Native.Nat.{_+_, _*_, _^_, _≤_, _<_}
 use native.Mathlib.Omega.{arith}
 use lib.Count.{leadingZeros, leading-le}
-use lib.ListN.{length, drop, length-drop}
+use lib.ListN.{length, drop}
 use Rattle.meaning.specs.Bits.{bitsOf}
-use Rattle.elias.proofs.Pack.{bits-length}
+use Rattle.elias.proofs.Pack.{bits-left}
 use Rattle.elias.proofs.Seen.{seen-many, seen-short, seen-value, seen-behind, behind-further}
 use borrow.Author.Needs.{needs}
 use Rattle.elias.proofs.word.gamma_in.Statement.{statement}
@@ -20,7 +20,7 @@ cast-z c = omega (arith, leading-le 64 (c .peek .result))
 returns : tie.Need-returns
 returns c =
     let a = c .before .before .before .args in
-    seen-many (c .before .peek .result) (drop (a .p) (bitsOf (a .body .now))) (omega (arith, c .before .peek .ok)) (c .before .peek .ensures) (a .zeros) (a .most) (c .before .before .before .pre .2) (c .if1 .taken)
+    seen-many (c .before .peek .result) (drop (a .p) (bitsOf (a .body .now))) (omega (arith, c .before .peek .ok)) (c .before .peek .ensures) (a .zeros) (a .most) (c .before .before .before .pre .2) (omega (arith, c .if1 .taken))
 
 mul-size : tie.Need-mul-size
 mul-size c = search needs
@@ -39,7 +39,7 @@ returns-2 c =
     let a = c .before .before .before .before .args in
     let l = bitsOf (a .body .now) in
     seen-short (c .before .before .peek .result) (drop (a .p) l) (omega (arith, c .before .before .peek .ok)) (c .before .before .peek .ensures) (a .zeros) (a .most) (c .before .before .before .before .pre .2) (c .before .if1 .left)
-    (omega (arith, c .if2 .taken, length-drop (a .p) l, bits-length (a .body .now)))
+    (omega (arith, c .if2 .taken, bits-left (a .p) (a .body .now)))
 
 top-requires : tie.Need-top-requires
 top-requires c κs = search needs
@@ -54,7 +54,7 @@ returns-3 c =
     let s = c .before .before .before .before .before .peek .result in
     let fits : s < 2 ^ 64 = omega (arith, c .before .before .before .before .before .peek .ok) in
     let seen = c .before .before .before .before .before .peek .ensures in
-    let long : 2 * leadingZeros 64 s + 1 ≤ length (drop (a .p) l) = omega (arith, c .before .before .before .if2 .left, length-drop (a .p) l, bits-length (a .body .now)) in
+    let long : 2 * leadingZeros 64 s + 1 ≤ length (drop (a .p) l) = omega (arith, c .before .before .before .if2 .left, bits-left (a .p) (a .body .now)) in
     c .within .ensures ∙ seen-value s (drop (a .p) l) fits seen (a .zeros) (a .most) (c .before .before .before .before .before .before .before .pre .2) (c .before .before .before .before .if1 .left) (c .before .top .result) long
     (seen-behind s (drop (a .p) l) fits seen (c .before .top .result) (c .before .before .if3 .taken) long (c .before .top .ensures))
 
@@ -75,7 +75,7 @@ returns-4 c =
     let a = c .before .before .before .before .before .before .before .args in
     let l = bitsOf (a .body .now) in
     let s = c .before .before .before .before .before .peek .result in
-    let long : 2 * leadingZeros 64 s + 1 ≤ length (drop (a .p) l) = omega (arith, c .before .before .before .if2 .left, length-drop (a .p) l, bits-length (a .body .now)) in
+    let long : 2 * leadingZeros 64 s + 1 ≤ length (drop (a .p) l) = omega (arith, c .before .before .before .if2 .left, bits-left (a .p) (a .body .now)) in
     c .within2 .ensures ∙ seen-value s (drop (a .p) l) (omega (arith, c .before .before .before .before .before .peek .ok)) (c .before .before .before .before .before .peek .ensures) (a .zeros) (a .most) (c .before .before .before .before .before .before .before .pre .2) (c .before .before .before .before .if1 .left) (c .before .take-bits .result) long
     (behind-further (c .before .take-bits .result) (a .p) (leadingZeros 64 s) l (c .before .take-bits .ensures))
 

@@ -1,12 +1,12 @@
 -- `word_at` meets its contract. Assumes nothing.
 use mathlib.Core.Path.{sym, ap, _∙_}
 use native.Mathlib.Omega.{arith}
-use lib.ListN.{drop, length-drop}
+use lib.ListN.{drop}
 use Rattle.meaning.specs.Bits.{bitsOf}
 use Rattle.meaning.specs.Elias.{gammaWord}
 use Rattle.elias.specs.Says.{wordOf}
 use Rattle.elias.specs.declared.word.Form.{Form}
-use Rattle.elias.proofs.Pack.{bits-length}
+use Rattle.elias.proofs.Pack.{bits-left}
 use Rattle.elias.proofs.Seen.{word-none}
 use borrow.Author.Needs.{needs}
 use Rattle.elias.proofs.word.word_at.Statement.{statement}
@@ -19,7 +19,7 @@ returns : tie.Need-returns
 returns c =
     let a = c .before .before .args in
     let l = bitsOf (a .body .now) in
-    word-none (a .form) (drop (a .p) l) (omega (arith, length-drop (a .p) l, bits-length (a .body .now)))
+    word-none (a .form) (drop (a .p) l) (omega (arith, bits-left (a .p) (a .body .now)))
 
 enum-told : tie.Need-enum-told
 enum-told c = search needs

@@ -1,24 +1,20 @@
-use borrow.Author.Needs.{needs}
+-- `close_block` puts the control byte and then zeros: what is left of them makes the whole. Assumes nothing.
 use Prim.Native.Nat.{ℕ, _+_, _-_, _%_}
 use mathlib.Core.Path.{_≡_, refl, ap, _∙_}
 use mathlib.Core.List.{List}
 use native.Mathlib.Omega.{arith}
 use lib.ListN.{set, replicate}
 use lib.Seq.{sets}
+use borrow.Author.Needs.{needs}
 use Rattle.g8iu.proofs.Puts.{ZerosSo, zeros-turn, zeros-end}
 use Rattle.g8iu.proofs.putting.close_block.Statement.{statement}
 use Rattle.g8iu.proofs.putting.close_block.Tie as tie
-use Rattle.g8iu.proofs.putting.close_block.Reads as reads
-use Rattle.g8iu.proofs.putting.close_block.Lts as lts
-use Rattle.leaves.proofs.put.Reads as put-reads
 
 abbrev Inv-loop : tie.InvT-loop
-Inv-loop out₀ at control used i₀ out i =
-    ZerosSo out₀ at used out i
+Inv-loop out₀ at control used i₀ out i = ZerosSo out₀ at used out i
 
 abbrev μ-loop : tie.MeasureT-loop
-μ-loop out₀ at control used i₀ out i =
-    8 - i
+μ-loop out₀ at control used i₀ out i = 8 - i
 
 cast-put : tie.Need-cast-put Inv-loop μ-loop
 cast-put c = search needs
@@ -27,8 +23,7 @@ put-requires : tie.Need-put-requires Inv-loop μ-loop
 put-requires c κs = search needs
 
 loop-holds : tie.Need-loop-holds Inv-loop μ-loop
-loop-holds c =
-    record { low = omega arith; high = omega arith; long = refl; rest = refl }
+loop-holds c = record { low = omega arith; high = omega arith; long = refl; rest = refl }
 
 add-put : tie.Need-add-put Inv-loop μ-loop
 add-put c = search needs
@@ -46,12 +41,10 @@ loop-less : tie.Need-loop-less Inv-loop μ-loop
 loop-less c = search needs
 
 loop-again : tie.Need-loop-again Inv-loop μ-loop
-loop-again c =
-    zeros-turn _ _ _ _ _ (c .before .before .before .before .before .loop .inv) _ (c .before .before .before .before .loop-test .taken) (c .before .before .put2 .ensures)
+loop-again c = zeros-turn _ _ _ _ _ (c .before .before .before .before .before .loop .inv) _ (c .before .before .before .before .loop-test .taken) (c .before .before .put2 .ensures)
 
 same-length : tie.Need-same-length Inv-loop μ-loop
-same-length c =
-    c .before .loop .inv .long ∙ c .before .before .before .before .put .kept .0
+same-length c = c .before .loop .inv .long ∙ c .before .before .before .before .put .kept .0
 
 returns : tie.Need-returns Inv-loop μ-loop
 returns c =

@@ -1,24 +1,20 @@
-use borrow.Author.Needs.{needs}
+-- `is_clear` looks at one byte after another: what is still to be seen decides. Assumes nothing.
 use Prim.Native.Nat.{_-_}
 use mathlib.Core.Path.{refl}
 use native.Mathlib.Omega.{arith}
+use borrow.Author.Needs.{needs}
 use Rattle.g8iu.proofs.Parts.{ClearSo, clear-turn, clear-not, clear-end}
 use Rattle.g8iu.proofs.taking.is_clear.Statement.{statement}
 use Rattle.g8iu.proofs.taking.is_clear.Tie as tie
-use Rattle.g8iu.proofs.taking.is_clear.Reads as reads
-use Rattle.g8iu.proofs.taking.is_clear.Lts as lts
 
 abbrev Inv-loop : tie.InvT-loop
-Inv-loop bytes from end i₀ i =
-    ClearSo bytes from end i
+Inv-loop bytes from end i₀ i = ClearSo bytes from end i
 
 abbrev μ-loop : tie.MeasureT-loop
-μ-loop bytes from end i₀ i =
-    end - i
+μ-loop bytes from end i₀ i = end - i
 
 loop-holds : tie.Need-loop-holds Inv-loop μ-loop
-loop-holds c =
-    record { low = omega arith; high = omega arith; rest = refl }
+loop-holds c = record { low = omega arith; high = omega arith; rest = refl }
 
 shared-slice-read-if1 : tie.Need-shared-slice-read-if1 Inv-loop μ-loop
 shared-slice-read-if1 c = search needs

@@ -1,26 +1,21 @@
+-- `take_eight` stores the eight data bytes, which are the block's numbers (`Eights`). Assumes nothing.
 use Prim.Native.Nat.{_+_, _-_}
 use mathlib.Core.Path.{_≡_, refl, ap, _∙_}
 use native.Mathlib.Omega.{arith}
-use borrow.Author.Needs.{needs}
 use lib.ListN.{length}
 use lib.Seq.{length-sets}
+use borrow.Author.Needs.{needs}
 use Rattle.meaning.specs.Places.{part}
 use Rattle.g8iu.proofs.Eights.{EightSo, eight-turn, eight-beyond, eight-whole}
 use Rattle.g8iu.proofs.taking.take_eight.Statement.{statement}
 use Rattle.g8iu.proofs.taking.take_eight.Tie as tie
-use Rattle.g8iu.proofs.taking.take_eight.Reads as reads
-use Rattle.g8iu.proofs.taking.take_eight.Lts as lts
-use Rattle.leaves.proofs.wide.Reads as wide-reads
 
 abbrev Inv-loop : tie.InvT-loop
-Inv-loop body at left out₀ to from i₀ out i =
-    EightSo body from out₀ to out i
+Inv-loop body at left out₀ to from i₀ out i = EightSo body from out₀ to out i
 
 abbrev μ-loop : tie.MeasureT-loop
-μ-loop body at left out₀ to from i₀ out i =
-    8 - i
+μ-loop body at left out₀ to from i₀ out i = 8 - i
 
--- src/taking.rt:67:9
 kept : (c : tie.At-loop Inv-loop μ-loop) → length (c .loop .out) ≡ length (c .before .before .before .before .args .out .now)
 kept c = let a = c .before .before .before .before .args in ap length (c .loop .inv .here) ∙ length-sets (a .out .now) (a .to) (part (a .body .now) (a .at + 1) (c .loop .i))
 
@@ -29,67 +24,44 @@ returns c =
     let a = c .before .before .before .args in
     eight-beyond (a .body .now) (a .at) (c .before .before .before .pre .1) _ _ _ (c .if1 .taken)
 
--- src/taking.rt:69:16
 add-from : tie.Need-add-from Inv-loop μ-loop
-add-from c =
-    omega arith
+add-from c = omega arith
 
--- src/taking.rt:71:5
 loop-holds : tie.Need-loop-holds Inv-loop μ-loop
-loop-holds c =
-    record { high = omega arith; here = refl }
+loop-holds c = record { high = omega arith; here = refl }
 
--- src/taking.rt:72:33
 add-wide : tie.Need-add-wide Inv-loop μ-loop
-add-wide c =
-    omega (arith, c .before .before .before .before .before .pre .0)
+add-wide c = omega (arith, c .before .before .before .before .before .pre .0)
 
--- src/taking.rt:72:28
 shared-slice-read-wide : tie.Need-shared-slice-read-wide Inv-loop μ-loop
-shared-slice-read-wide c =
-    omega (arith, c .before .before .before .before .before .before .pre .0)
+shared-slice-read-wide c = omega (arith, c .before .before .before .before .before .before .pre .0)
 
--- src/taking.rt:72:23
 wide-requires : tie.Need-wide-requires Inv-loop μ-loop
-wide-requires c κs =
-    search needs
+wide-requires c κs = search needs
 
--- src/taking.rt:72:13
 add-out : tie.Need-add-out Inv-loop μ-loop
-add-out c =
-    omega (arith, c .before .before .before .before .before .before .before .pre .2, c .before .before .before .before .if1 .left)
+add-out c = omega (arith, c .before .before .before .before .before .before .before .pre .2, c .before .before .before .before .if1 .left)
 
--- src/taking.rt:72:9
 mul-out : tie.Need-mul-out Inv-loop μ-loop
 mul-out c =
     omega (arith, c .before .before .before .before .before .before .before .pre .2, c .before .before .before .before .if1 .left, c .before .before .before .before .before .before .before .good .1 .1 .1 .0 .1)
 
--- src/taking.rt:72:9
 slice-write-out : tie.Need-slice-write-out Inv-loop μ-loop
-slice-write-out c =
-    omega (arith, kept (c .before .before .before), c .before .before .before .before .before .before .before .pre .2, c .before .before .before .before .if1 .left)
+slice-write-out c = omega (arith, kept (c .before .before .before), c .before .before .before .before .before .before .before .pre .2, c .before .before .before .before .if1 .left)
 
--- src/taking.rt:73:9
 add-i : tie.Need-add-i Inv-loop μ-loop
-add-i c =
-    omega arith
+add-i c = omega arith
 
--- src/taking.rt:71:5
 loop-less : tie.Need-loop-less Inv-loop μ-loop
-loop-less c =
-    omega arith
+loop-less c = omega arith
 
--- src/taking.rt:71:5
 loop-again : tie.Need-loop-again Inv-loop μ-loop
 loop-again c =
     eight-turn _ _ _ _ _ _ (c .before .before .before .loop .inv) (omega (arith, c .before .before .before .before .before .before .before .pre .0)) (c .before .before .loop-test .taken) _ (c .wide .ensures .0)
 
--- src/taking.rt:62:1
 same-length : tie.Need-same-length Inv-loop μ-loop
-same-length c =
-    kept (c .before)
+same-length c = kept (c .before)
 
--- src/taking.rt:62:1
 returns-2 : tie.Need-returns-2 Inv-loop μ-loop
 returns-2 c =
     let a = c .before .before .before .before .before .args in

@@ -1,3 +1,4 @@
+-- A sum of the fields' lengths, for each count of fields. Assumes nothing.
 use mathlib.Core.Path.{_≡_}
 use native.Mathlib.Nat.{div-div-eq-div-mul}
 use native.Mathlib.Omega.{arith}

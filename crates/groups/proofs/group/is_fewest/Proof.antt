@@ -1,3 +1,4 @@
+-- A number read from so many bytes has that length where it reaches the power below. Assumes nothing.
 use native.Mathlib.Omega.{arith}
 use mathlib.Core.Path.{_≡_, subst}
 use Prim.Native.Nat.{ℕ, _^_, _<_}

@@ -1,3 +1,4 @@
+-- The quotient by the power of 4 that a count of fields says. Assumes nothing.
 use native.Mathlib.Omega.{arith}
 use mathlib.Core.Path.{_≡_}
 use Rattle.groups.proofs.group.unused.Statement.{statement}

@@ -1,3 +1,4 @@
+-- A length lies from 1 to 4. Assumes nothing.
 use native.Mathlib.Omega.{arith}
 use Rattle.fields.proofs.Fields.{held}
 use borrow.Author.Needs.{needs}
