@@ -15,7 +15,14 @@ ghost use Rattle.meaning.specs.Places.{part, Source, Target, Wrote, Got, UnitIs
 ghost use Rattle.codes.specs.Started.{startedSays};
 
 // Writes n numbers that stand in a slice from a place on, to an output from an offset on. Answers where their bytes end.
-pub fn write_code(code: u8, list: &[u32], from: Place, n: usize, out: &mut [u8], at: Offset) -> Offset
+pub fn write_code(
+    code: u8,
+    list: &[u32],
+    from: Place,
+    n: usize,
+    out: &mut [u8],
+    at: Offset,
+) -> Offset
     requires { ⌜ Source (now list) (from .number) n (at .byte) ⌝ }
     ensures { λ r. ⌜ Wrote (codeOf code .write (part (now (list .entry)) (from .number) n)) (at .byte) (now (out .entry)) (now (out .exit)) r ⌝ }
 {
@@ -72,8 +79,16 @@ pub fn start_at(code: u8, body: &[u8], n: usize) -> Started
             return Started::Refused(9);
         }
         let tail = Offset { byte: controls };
-        return Started::At(Position { head: zero, tail, bit: first });
+        return Started::At(Position {
+            head: zero,
+            tail,
+            bit: first,
+        });
     }
     let tail = zero;
-    Started::At(Position { head: zero, tail, bit: first })
+    Started::At(Position {
+        head: zero,
+        tail,
+        bit: first,
+    })
 }

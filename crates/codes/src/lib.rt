@@ -6,11 +6,10 @@ pub use dispatch::read_code;
 pub use dispatch::start_at;
 pub use dispatch::unit_at;
 pub use dispatch::write_code;
+use meaning::Position;
 pub use walk::firsts_code;
 pub use walk::lookup_code;
 pub use walk::total_code;
-
-use meaning::Position;
 
 // Where the first unit begins, or the refusal.
 pub enum Started {

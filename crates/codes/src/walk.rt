@@ -121,14 +121,24 @@ fn lay(work: &mut [u32], at: usize, numbers: [u32; 8], k: usize)
 }
 
 // The numbers at the first k places of n go to work from a place on, as far as no place refuses.
-pub fn firsts_code(code: u8, body: &[u8], n: usize, k: usize, work: &mut [u32], from: Place) -> First
+pub fn firsts_code(
+    code: u8,
+    body: &[u8],
+    n: usize,
+    k: usize,
+    work: &mut [u32],
+    from: Place,
+) -> First
     requires { ⌜ Space (now body) n k (now work) (from .number) ⌝ }
     ensures { λ r. ⌜ Firsts (lookCode (codeOf code) (now (body .entry)) n) k (from .number) (now (work .entry)) (now (work .exit)) r ⌝ }
 {
     let to = from.number;
     let started = start_at(code, body, n);
     let Started::At(first) = started else {
-        return First { count: 0, refusal: start_refusal(started) };
+        return First {
+            count: 0,
+            refusal: start_refusal(started),
+        };
     };
     let mut at = first;
     let mut passed: usize = 0;
@@ -136,16 +146,25 @@ pub fn firsts_code(code: u8, body: &[u8], n: usize, k: usize, work: &mut [u32], 
         let read = unit_at(code, body, n - passed, at);
         let unit = read.unit;
         let Unit::Next(next, count) = unit else {
-            return First { count: passed, refusal: refusal_of(unit) };
+            return First {
+                count: passed,
+                refusal: refusal_of(unit),
+            };
         };
         let numbers = read.numbers;
         if k - passed < count {
             lay(work, to + passed, numbers, k - passed);
-            return First { count: k, refusal: 0 };
+            return First {
+                count: k,
+                refusal: 0,
+            };
         }
         lay(work, to + passed, numbers, count);
         passed += count;
         at = next;
     }
-    First { count: k, refusal: 0 }
+    First {
+        count: k,
+        refusal: 0,
+    }
 }

@@ -2,14 +2,15 @@
 mod input;
 mod output;
 mod word;
+
+use crate::output::Pending;
 use crate::output::finish;
 use crate::output::push_word;
-use crate::output::Pending;
+use crate::word::Codeword;
+use crate::word::Form;
 use crate::word::done;
 use crate::word::refusal_of;
 use crate::word::word_at;
-use crate::word::Codeword;
-use crate::word::Form;
 use meaning::Bit;
 use meaning::Offset;
 use meaning::Place;

@@ -80,7 +80,11 @@ fn delta_at(body: &[u8], p: usize) -> Codeword
     if left - size < n {
         return Codeword::Refused(9);
     }
-    within((1 << n) + take_bits(body, p + size, n), 4294967296, size + n)
+    within(
+        (1 << n) + take_bits(body, p + size, n),
+        4294967296,
+        size + n,
+    )
 }
 
 // The codeword at a bit, which may lie past the end.

@@ -95,7 +95,7 @@ field-first s from m len h l =
     let n : length (take len (drop from s)) ≡ len = length-take-le len (drop from s) (omega (arith, length-drop from s)) in (
       take-take len m (drop from s) h,
       ap (λ (k : ℕ). drop len (take k (drop from s))) e ∙ ap (drop len) (take-add len (m - len) (drop from s))
-      ∙ drop-at (take len (drop from s)) (take (m - len) (drop len (drop from s))) len n ∙ ap (take (m - len)) (drop-drop len from s),
+          ∙ drop-at (take len (drop from s)) (take (m - len) (drop len (drop from s))) len n ∙ ap (take (m - len)) (drop-drop len from s),
     )
 
 sum-none : (n : ℕ) → n + sum [] ≡ n

@@ -91,8 +91,14 @@ module _ (left : ℕ) (xs : List ℕ) (some : 1 ≤ length xs) (few : length xs 
       let at = p .head .byte in
       let l : length body - at ≡ 9 + length rest = sym (length-drop at body) ∙ ap length e ∙ length-append (block xs) rest ∙ ap (λ (n : ℕ). n + length rest) (block-length xs fitted) in
       let d : length data-of ≡ 8 = omega (arith, block-length xs fitted) in
-      rw (le-leb (at + 9) (length body) (omega arith), first-is body at _ _ e, later-is body at (blockControl (map byteLength xs)) (data-of ++ rest) e, take-at data-of rest 8 d,
-      lengths-control (map byteLength xs) (lengths-some xs) (rw (← (fields-length xs)) fitted), block-written)
+      rw (
+        le-leb (at + 9) (length body) (omega arith),
+        first-is body at _ _ e,
+        later-is body at (blockControl (map byteLength xs)) (data-of ++ rest) e,
+        take-at data-of rest 8 d,
+        lengths-control (map byteLength xs) (lengths-some xs) (rw (← (fields-length xs)) fitted),
+        block-written,
+      )
 
 -- ---- read and written back
 pub fields-lengths : (ls bytes xs : List ℕ) → fieldsIn ls bytes ≡ given xs → map byteLength xs ≡ ls

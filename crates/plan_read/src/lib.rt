@@ -29,7 +29,15 @@ fn long(x: u32) -> usize
 }
 
 // Reads n numbers by the plan that begins at an offset of the plan's bytes.
-pub fn read_plan(plan: &[u8], pos: Offset, stages: usize, body: &[u8], n: usize, work: &mut [u32], from: Place) -> Reading
+pub fn read_plan(
+    plan: &[u8],
+    pos: Offset,
+    stages: usize,
+    body: &[u8],
+    n: usize,
+    work: &mut [u32],
+    from: Place,
+) -> Reading
     requires { ⌜ Fits (now body) (now work) stages n (from .number) ⌝ }
     ensures { λ r. ⌜ Got (read (planAt stages (now (plan .entry)) (pos .byte)) (now (body .entry)) n) (from .number) (now (work .entry)) (now (work .exit)) r ⌝ }
 {
@@ -55,7 +63,15 @@ pub fn read_plan(plan: &[u8], pos: Offset, stages: usize, body: &[u8], n: usize,
 }
 
 // By a run stage whose two inner plans begin at an offset: the values after the list's place, the lengths after them.
-fn read_runs(plan: &[u8], pos: Offset, stages: usize, body: &[u8], n: usize, work: &mut [u32], from: Place) -> Reading
+fn read_runs(
+    plan: &[u8],
+    pos: Offset,
+    stages: usize,
+    body: &[u8],
+    n: usize,
+    work: &mut [u32],
+    from: Place,
+) -> Reading
     requires { ⌜ FitsRuns (now body) (now work) stages n (from .number) ⌝ }
     ensures { λ r. ⌜ Got (read (runs (planAt stages (now (plan .entry)) (pos .byte)) (planAt stages (now (plan .entry)) (pos .byte + planSize (planAt stages (now (plan .entry)) (pos .byte))))) (now (body .entry)) n) (from .number) (now (work .entry)) (now (work .exit)) r ⌝ }
 {
@@ -73,9 +89,27 @@ fn read_runs(plan: &[u8], pos: Offset, stages: usize, body: &[u8], n: usize, wor
     let first = from.number;
     let second = plan_end(plan, pos, stages);
     let split = 8 + size;
-    match read_plan(plan, pos, stages, &body[8..split], k, work, Place { number: first + n }) {
+    match read_plan(
+        plan,
+        pos,
+        stages,
+        &body[8..split],
+        k,
+        work,
+        Place { number: first + n },
+    ) {
         Reading::Refused(e) => Reading::Refused(e),
-        Reading::Whole(_) => match read_plan(plan, second, stages, &body[split..], k, work, Place { number: first + 2 * n }) {
+        Reading::Whole(_) => match read_plan(
+            plan,
+            second,
+            stages,
+            &body[split..],
+            k,
+            work,
+            Place {
+                number: first + 2 * n,
+            },
+        ) {
             Reading::Refused(e) => Reading::Refused(e),
             Reading::Whole(_) => unroll_into(work, from, n, k),
         },
@@ -87,5 +121,13 @@ pub fn read_list(plan: &[u8], body: &[u8], n: usize, work: &mut [u32]) -> Readin
     requires { ⌜ (length (now body) ≤ mostBytes) × (n ≤ mostNumbers) × (7 * n ≤ length (now work)) ⌝ }
     ensures { λ r. ⌜ Got (read (planOf (now (plan .entry))) (now (body .entry)) n) 0 (now (work .entry)) (now (work .exit)) r ⌝ }
 {
-    read_plan(plan, Offset { byte: 0 }, 3, body, n, work, Place { number: 0 })
+    read_plan(
+        plan,
+        Offset { byte: 0 },
+        3,
+        body,
+        n,
+        work,
+        Place { number: 0 },
+    )
 }

@@ -111,7 +111,7 @@ inner : (p : Plan) (ys : List ℕ) (from n at : ℕ) (r : Offset) (w w₁ w₂ o
     → Written p ys (from + n) at w w₂ o o′ r
 inner p ys from n at r w w₁ w₂ o o′ len fits ew s =
     let e : part w₁ (from + n) n ≡ ys
-          = ap (λ (m : List ℕ). part m (from + n) n) ew ∙ ap (λ (k : ℕ). part (sets w (from + n) ys) (from + n) k) (sym len) ∙ part-sets ys w (from + n) (omega arith) in
+    = ap (λ (m : List ℕ). part m (from + n) n) ew ∙ ap (λ (k : ℕ). part (sets w (from + n) ys) (from + n) k) (sym len) ∙ part-sets ys w (from + n) (omega arith) in
     record {
       ends = s .ends ∙ ap (λ (l : List ℕ). at + length (write p l)) e;
       bytes = s .bytes ∙ ap (λ (l : List ℕ). sets o at (write p l)) e;
@@ -159,9 +159,9 @@ runs-bytes o o₁ o₂ o₃ o₄ hd vb lb hl at e h₄ l₄ e₁ e₂ ee e₃ e�
     let h₂ : List ℕ = hl (length vb) in
     let lh : length h₂ ≡ 4 = l₄ (length vb) in
     let a₃ : o₃ ≡ sets (sets o at (hd ++ h₂)) (at + 8) vb
-          = e₃ ∙ ap (λ (x : ℕ). sets o₂ (at + 4) (hl x)) len ∙ ap (λ (l : List ℕ). sets l (at + 4) h₂) (e₂ ∙ ap (λ (l : List ℕ). sets l (at + 8) vb) e₁)
-            ∙ sets-swap h₂ vb (sets o at hd) (at + 4) (at + 8) (omega arith)
-            ∙ ap (λ (l : List ℕ). sets l (at + 8) vb) (ap (λ (x : ℕ). sets (sets o at hd) (at + x) h₂) (sym h₄) ∙ sets-append hd h₂ o at) in
+    = e₃ ∙ ap (λ (x : ℕ). sets o₂ (at + 4) (hl x)) len ∙ ap (λ (l : List ℕ). sets l (at + 4) h₂) (e₂ ∙ ap (λ (l : List ℕ). sets l (at + 8) vb) e₁)
+    ∙ sets-swap h₂ vb (sets o at hd) (at + 4) (at + 8) (omega arith)
+    ∙ ap (λ (l : List ℕ). sets l (at + 8) vb) (ap (λ (x : ℕ). sets (sets o at hd) (at + x) h₂) (sym h₄) ∙ sets-append hd h₂ o at) in
     let p₈ : at + 8 ≡ at + length (hd ++ h₂) = omega (arith, length-append hd h₂) in
     let a₃′ : o₃ ≡ sets o at ((hd ++ h₂) ++ vb) = a₃ ∙ ap (λ (x : ℕ). sets (sets o at (hd ++ h₂)) x vb) p₈ ∙ sets-append (hd ++ h₂) vb o at in
     let pe : e ≡ at + length ((hd ++ h₂) ++ vb) = omega (arith, length-append (hd ++ h₂) vb, length-append hd h₂) in
@@ -192,9 +192,9 @@ written-runs p q from n at k e r w w₁ w₂ w₃ o o₁ o₂ o₃ o₄ a b few 
     record {
       ends = omega (arith, length-append (write p vs) (write q ls), word-length (length vs), word-length (length (write p vs)));
       bytes = runs-bytes o o₁ o₂ o₃ o₄ (word k) (write p vs) (write q ls) word at (e .byte) (word-length k) word-length
-                (eo ∙ ap (λ (x : ℕ). sets o at (word x)) ea) (s .bytes ∙ ap (λ (l : List ℕ). sets o₁ (at + 8) (write p l)) ev) ends₁
-                (eo₃ ∙ ap (λ (x : ℕ). sets o₂ (at + 4) (word x)) eb) (t .bytes ∙ ap (λ (l : List ℕ). sets o₃ (e .byte) (write q l)) el)
-              ∙ ap (λ (x : ℕ). sets o at (word x ++ (word (length (write p vs)) ++ (write p vs ++ write q ls)))) (m .many);
+          (eo ∙ ap (λ (x : ℕ). sets o at (word x)) ea) (s .bytes ∙ ap (λ (l : List ℕ). sets o₁ (at + 8) (write p l)) ev) ends₁
+          (eo₃ ∙ ap (λ (x : ℕ). sets o₂ (at + 4) (word x)) eb) (t .bytes ∙ ap (λ (l : List ℕ). sets o₃ (e .byte) (write q l)) el)
+          ∙ ap (λ (x : ℕ). sets o at (word x ++ (word (length (write p vs)) ++ (write p vs ++ write q ls)))) (m .many);
       kept = kept-under (from + n) (from + n + k) w₃ w₂ (omega arith) (t .kept) ∙ kept-under (from + n) (from + 2 * n + k) w₂ w₁ (omega arith) (s .kept) ∙ m .kept;
     }
 

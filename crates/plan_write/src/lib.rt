@@ -28,7 +28,16 @@ fn word_of(x: usize) -> u32
 }
 
 // Writes n numbers by the plan that begins at an offset of the plan's bytes. Answers where their bytes end.
-pub fn write_plan(plan: &[u8], pos: Offset, stages: usize, work: &mut [u32], from: Place, n: usize, out: &mut [u8], at: Offset) -> Offset
+pub fn write_plan(
+    plan: &[u8],
+    pos: Offset,
+    stages: usize,
+    work: &mut [u32],
+    from: Place,
+    n: usize,
+    out: &mut [u8],
+    at: Offset,
+) -> Offset
     requires { ⌜ Fit stages n (from .number) (at .byte) (length (now work)) ⌝ }
     ensures { λ r. ⌜ Written (planAt stages (now (plan .entry)) (pos .byte)) (part (now (work .entry)) (from .number) n) (from .number + n) (at .byte) (now (work .entry)) (now (work .exit)) (now (out .entry)) (now (out .exit)) r ⌝ }
 {
@@ -41,19 +50,46 @@ pub fn write_plan(plan: &[u8], pos: Offset, stages: usize, work: &mut [u32], fro
             let m = least_of(work, from, n);
             put_word(out, start, m);
             less_into(work, from, n, m);
-            write_plan(plan, next, less, work, Place { number: first + n }, n, out, Offset { byte: start + 4 })
+            write_plan(
+                plan,
+                next,
+                less,
+                work,
+                Place { number: first + n },
+                n,
+                out,
+                Offset { byte: start + 4 },
+            )
         }
         Stage::Differences(next, less) => {
             let first = from.number;
             gaps_into(work, from, n);
-            write_plan(plan, next, less, work, Place { number: first + n }, n, out, at)
+            write_plan(
+                plan,
+                next,
+                less,
+                work,
+                Place { number: first + n },
+                n,
+                out,
+                at,
+            )
         }
         Stage::Runs(next, less) => write_runs(plan, next, less, work, from, n, out, at),
     }
 }
 
 // By a run stage whose two inner plans begin at an offset: the values list by the first, the lengths list by the second.
-fn write_runs(plan: &[u8], pos: Offset, stages: usize, work: &mut [u32], from: Place, n: usize, out: &mut [u8], at: Offset) -> Offset
+fn write_runs(
+    plan: &[u8],
+    pos: Offset,
+    stages: usize,
+    work: &mut [u32],
+    from: Place,
+    n: usize,
+    out: &mut [u8],
+    at: Offset,
+) -> Offset
     requires { ⌜ FitRuns stages n (from .number) (at .byte) (length (now work)) ⌝ }
     ensures { λ r. ⌜ Written (runs (planAt stages (now (plan .entry)) (pos .byte)) (planAt stages (now (plan .entry)) (pos .byte + planSize (planAt stages (now (plan .entry)) (pos .byte))))) (part (now (work .entry)) (from .number) n) (from .number + n) (at .byte) (now (work .entry)) (now (work .exit)) (now (out .entry)) (now (out .exit)) r ⌝ }
 {
@@ -62,10 +98,30 @@ fn write_runs(plan: &[u8], pos: Offset, stages: usize, work: &mut [u32], from: P
     let second = plan_end(plan, pos, stages);
     let k = runs_into(work, from, n);
     put_word(out, start, word_of(k));
-    let end = write_plan(plan, pos, stages, work, Place { number: first + 2 * n }, k, out, Offset { byte: start + 8 });
+    let end = write_plan(
+        plan,
+        pos,
+        stages,
+        work,
+        Place {
+            number: first + 2 * n,
+        },
+        k,
+        out,
+        Offset { byte: start + 8 },
+    );
     let stop = end.byte;
     put_word(out, start + 4, word_of(stop - (start + 8)));
-    write_plan(plan, second, stages, work, Place { number: first + n }, k, out, end)
+    write_plan(
+        plan,
+        second,
+        stages,
+        work,
+        Place { number: first + n },
+        k,
+        out,
+        end,
+    )
 }
 
 // Writes the first n numbers of work by a plan; 7n numbers of work are enough.
@@ -73,5 +129,14 @@ pub fn write_list(plan: &[u8], work: &mut [u32], n: usize, out: &mut [u8], at: O
     requires { ⌜ (n ≤ mostNumbers) × (7 * n ≤ length (now work)) × (at .byte < 2 ^ 62) ⌝ }
     ensures { λ r. ⌜ Written (planOf (now (plan .entry))) (take n (now (work .entry))) n (at .byte) (now (work .entry)) (now (work .exit)) (now (out .entry)) (now (out .exit)) r ⌝ }
 {
-    write_plan(plan, Offset { byte: 0 }, 3, work, Place { number: 0 }, n, out, at)
+    write_plan(
+        plan,
+        Offset { byte: 0 },
+        3,
+        work,
+        Place { number: 0 },
+        n,
+        out,
+        at,
+    )
 }

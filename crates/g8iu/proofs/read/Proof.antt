@@ -21,9 +21,9 @@ inside c = omega (arith, c .if1 .left, c .before .before .loop .inv .inside)
 -- how many numbers it holds
 few : (c : tie.After-known-told Inv-loop μ-loop) → (0 < c .before .r .given .0 .0) × (c .before .r .given .0 .0 ≤ c .before .before .before .before .before .before .before .before .before .before .before .before .args .n - c .before .before .before .before .before .before .before .before .before .loop .i)
 few c = (
-      room-some _ _ _ _ (c .before .before .before .before .before .before .before .before .before .before .before .before .pre .inside) _ _ _ _ (c .before .before .before .before .before .before .before .before .before .loop .inv) (c .before .before .before .before .before .before .before .before .loop-test .taken) (inside (c .before .before .before .before .before .before .before)) _ _ (c .before .before .before .before .before .take-block .ensures) _ _ (c .before .r .given .1),
-      room-few _ _ _ _ (c .before .before .before .before .before .before .before .before .before .before .before .before .pre .inside) _ _ _ _ (c .before .before .before .before .before .before .before .before .before .loop .inv) (c .before .before .before .before .before .before .before .before .loop-test .taken) (inside (c .before .before .before .before .before .before .before)) _ _ (c .before .before .before .before .before .take-block .ensures) _ _ (c .before .r .given .1),
-    )
+  room-some _ _ _ _ (c .before .before .before .before .before .before .before .before .before .before .before .before .pre .inside) _ _ _ _ (c .before .before .before .before .before .before .before .before .before .loop .inv) (c .before .before .before .before .before .before .before .before .loop-test .taken) (inside (c .before .before .before .before .before .before .before)) _ _ (c .before .before .before .before .before .take-block .ensures) _ _ (c .before .r .given .1),
+  room-few _ _ _ _ (c .before .before .before .before .before .before .before .before .before .before .before .before .pre .inside) _ _ _ _ (c .before .before .before .before .before .before .before .before .before .loop .inv) (c .before .before .before .before .before .before .before .before .loop-test .taken) (inside (c .before .before .before .before .before .before .before)) _ _ (c .before .before .before .before .before .take-block .ensures) _ _ (c .before .r .given .1),
+)
 
 loop-holds : tie.Need-loop-holds Inv-loop μ-loop
 loop-holds c =
@@ -73,7 +73,7 @@ same-length-2 c =
 
 returns-2 : tie.Need-returns-2 Inv-loop μ-loop
 returns-2 c =
-    room-full _ _ _ _ (c .before .before .before .before .before .before .before .before .before .before .before .before .before .before .before .pre .inside) _ _ _ _ (c .before .before .before .before .before .before .before .before .before .before .before .before .loop .inv) (c .before .before .before .before .before .before .before .before .before .before .before .loop-test .taken) (inside (c .before .before .before .before .before .before .before .before .before .before)) _ _ (c .before .before .before .before .before .before .before .before .take-block .ensures) _ _ (c .before .before .before .before .r .given .1) _ (c .before .byte-length .ensures) (c .if2 .taken)
+    room-full _ _ _ _ (c .before .before .before .before .before .before .before .before .before .before .before .before .before .before .before .pre .inside) _ _ _ _ (c .before .before .before .before .before .before .before .before .before .before .before .before .loop .inv) (c .before .before .before .before .before .before .before .before .before .before .before .loop-test .taken) (inside (c .before .before .before .before .before .before .before .before .before .before)) _ _ (c .before .before .before .before .before .before .before .before .take-block .ensures) _ _ (c .before .before .before .before .r .given .1) _ (c .before .byte-length .ensures) (omega (arith, c .if2 .taken))
 
 add-i : tie.Need-add-i Inv-loop μ-loop
 add-i c =
@@ -88,7 +88,7 @@ loop-less c = omega (arith, few (c .before .before .before))
 
 loop-again : tie.Need-loop-again Inv-loop μ-loop
 loop-again c =
-    room-turn _ _ _ _ (c .before .before .before .before .before .before .before .before .before .before .before .before .before .before .before .pre .inside) _ _ _ _ (c .before .before .before .before .before .before .before .before .before .before .before .before .loop .inv) (c .before .before .before .before .before .before .before .before .before .before .before .loop-test .taken) (inside (c .before .before .before .before .before .before .before .before .before .before)) _ _ (c .before .before .before .before .before .before .before .before .take-block .ensures) _ _ (c .before .before .before .before .r .given .1) _ (c .before .byte-length .ensures) (c .if2 .left)
+    room-turn _ _ _ _ (c .before .before .before .before .before .before .before .before .before .before .before .before .before .before .before .pre .inside) _ _ _ _ (c .before .before .before .before .before .before .before .before .before .before .before .before .loop .inv) (c .before .before .before .before .before .before .before .before .before .before .before .loop-test .taken) (inside (c .before .before .before .before .before .before .before .before .before .before)) _ _ (c .before .before .before .before .before .before .before .before .take-block .ensures) _ _ (c .before .before .before .before .r .given .1) _ (c .before .byte-length .ensures) (omega (arith, c .if2 .left))
 
 enum-known-r-2 : tie.Need-enum-known-r-2 Inv-loop μ-loop
 enum-known-r-2 c = search needs

@@ -22,9 +22,11 @@ push-requires-2 : tie.Need-push-requires-2
 push-requires-2 c κs =
     let a = c .before .before .before .before .before .before .before .args in
     let b = c .before .before .before .before .before .bit-length .result in
-    let e = c .before .before .before .before .before .bit-length .ensures in
-    (gamma-room-2 b (a .v) (a .wait) (e .0) (c .before .before .before .push .result) (a .out .now) (c .before .before .before .push .last .0) (c .before .before .before .push .ensures) (c .before .before .before .before .before .before .before .pre .0),
-      sized b (a .v) (e .0) (c .before .before .before .before .before .before .before .pre .1) (c .before .before .before .before .before .before .before .pre .2) .below, e .2)
+    let e = c .before .before .before .before .before .bit-length .ensures in (
+      gamma-room-2 b (a .v) (a .wait) (e .0) (c .before .before .before .push .result) (a .out .now) (c .before .before .before .push .last .0) (c .before .before .before .push .ensures) (c .before .before .before .before .before .before .before .pre .0),
+      sized b (a .v) (e .0) (c .before .before .before .before .before .before .before .pre .1) (c .before .before .before .before .before .before .before .pre .2) .below,
+      e .2,
+    )
 
 same-length : tie.Need-same-length
 same-length c = search needs

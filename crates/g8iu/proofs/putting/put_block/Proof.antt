@@ -84,11 +84,10 @@ loop-less : tie.Need-loop-less Inv-loop μ-loop
 loop-less c = omega arith
 
 loop-again : tie.Need-loop-again Inv-loop μ-loop
-loop-again c =
-    (
-      put-turn _ _ _ _ _ _ _ _ _ (c .before .before .before .before .before .before .before .before .loop .inv .0) (c .before .before .before .before .before .before .before .before .before .before .before .pre .1) (c .before .before .before .before .before .before .before .loop-test .taken) _ (c .before .before .before .before .before .byte-length .ensures) (c .before .before .before .before .if1 .left) _ (c .before .before .put-fewest .ensures .1),
-      c .before .before .put-fewest .kept .0 ∙ c .before .before .before .before .before .before .before .before .loop .inv .1,
-    )
+loop-again c = (
+  put-turn _ _ _ _ _ _ _ _ _ (c .before .before .before .before .before .before .before .before .loop .inv .0) (c .before .before .before .before .before .before .before .before .before .before .before .pre .1) (c .before .before .before .before .before .before .before .loop-test .taken) _ (c .before .before .before .before .before .byte-length .ensures) (c .before .before .before .before .if1 .left) _ (c .before .before .put-fewest .ensures .1),
+  c .before .before .put-fewest .kept .0 ∙ c .before .before .before .before .before .before .before .before .loop .inv .1,
+)
 
 close-block-requires-2 : tie.Need-close-block-requires-2 Inv-loop μ-loop
 close-block-requires-2 c κs = closing (c .before .before)

@@ -60,7 +60,7 @@ returns-2 c =
 returns-3 : tie.Need-returns-3 Inv-loop μ-loop
 returns-3 c =
     let a = c .before .before .before .before .before .before .args in
-    take-beyond (a .body .now) (a .at) _ _ (tally (c .before .before .before)) _ _ (c .if3 .taken)
+    take-beyond (a .body .now) (a .at) _ _ (tally (c .before .before .before)) _ _ (omega (arith, c .if3 .taken))
 
 add-end : tie.Need-add-end Inv-loop μ-loop
 add-end c = omega arith

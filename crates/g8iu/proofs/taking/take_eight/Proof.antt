@@ -22,7 +22,7 @@ kept c = let a = c .before .before .before .before .args in ap length (c .loop .
 returns : tie.Need-returns Inv-loop μ-loop
 returns c =
     let a = c .before .before .before .args in
-    eight-beyond (a .body .now) (a .at) (c .before .before .before .pre .1) _ _ _ (c .if1 .taken)
+    eight-beyond (a .body .now) (a .at) (c .before .before .before .pre .1) _ _ _ (omega arith)
 
 add-from : tie.Need-add-from Inv-loop μ-loop
 add-from c = omega arith
@@ -65,7 +65,7 @@ same-length c = kept (c .before)
 returns-2 : tie.Need-returns-2 Inv-loop μ-loop
 returns-2 c =
     let a = c .before .before .before .before .before .args in
-    eight-whole (a .body .now) (a .at) (c .before .before .before .before .before .pre .1) _ (λ i. c .before .before .before .before .shared-slice-known .given i .fits) (c .before .before .before .before .before .pre .0) (c .before .before .if1 .left) _ _ _ _ (c .before .loop .inv) (c .loop-test .left)
+    eight-whole (a .body .now) (a .at) (c .before .before .before .before .before .pre .1) _ (λ i. c .before .before .before .before .shared-slice-known .given i .fits) (c .before .before .before .before .before .pre .0) (omega (arith, c .before .before .if1 .left)) _ _ _ _ (c .before .loop .inv) (c .loop-test .left)
 
 pub take-eight-spec : {M : Type 1} → statement M
 take-eight-spec =

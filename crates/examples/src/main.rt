@@ -1,0 +1,179 @@
+// Document 01's examples that are run, and the errors seen in earlier code, each a line with the refusal's number and the numbers read.
+use libc::STDOUT_FILENO;
+use meaning::Found;
+use meaning::Judged;
+use meaning::Place;
+use meaning::Reading;
+use meaning::Sized;
+
+fn text(line: &[u8]) {
+    io::write_all(STDOUT_FILENO, line);
+}
+
+fn number(x: u64) {
+    io::write_all(STDOUT_FILENO, b" ");
+    io::print_decimal(STDOUT_FILENO, x);
+}
+
+fn end() {
+    io::write_all(STDOUT_FILENO, b"\n");
+}
+
+// The judge's number of a plan for a kind.
+fn judged(name: &[u8], kind: u8, plan: &[u8]) {
+    text(name);
+    let answer = judge::judge(kind, plan);
+    match answer {
+        Judged::Passed => number(0),
+        Judged::Refused(e) => number(e as u64),
+    }
+    end();
+}
+
+// The worst size's number and its size.
+fn worst(name: &[u8], plan: &[u8], n: usize) {
+    text(name);
+    let answer = judge::worst_size(plan, n);
+    match answer {
+        Sized::Bytes(size) => {
+            number(0);
+            number(size as u64);
+        }
+        Sized::Refused(e) => number(e as u64),
+    }
+    end();
+}
+
+// A body read strictly by a plan: the number, and the last number of the list.
+fn read(name: &[u8], plan: &[u8], body: &[u8], n: usize) {
+    text(name);
+    if body.len() <= 65536 {
+        if n <= 1024 {
+            let mut work = [0u32; 7168];
+            let answer = plan_read::read_list(plan, body, n, &mut work);
+            match answer {
+                Reading::Whole(count) => {
+                    number(0);
+                    number(count as u64);
+                }
+                Reading::Refused(e) => number(e as u64),
+            }
+        }
+    }
+    end();
+}
+
+// One number of a body by a code.
+fn looked(name: &[u8], code: u8, body: &[u8], n: usize, place: usize) {
+    text(name);
+    if body.len() <= 65536 {
+        if n <= 1024 {
+            if place < n {
+                let answer = codes::lookup_code(code, body, n, Place { number: place });
+                match answer {
+                    Found::Number(x) => {
+                        number(0);
+                        number(x as u64);
+                    }
+                    Found::Refused(e) => number(e as u64),
+                }
+            }
+        }
+    }
+    end();
+}
+
+fn plans() {
+    judged(
+        b"16 16 16 1",
+        0,
+        &[16, 16, 16, 1, 0, 0, 0, 0, 0, 0, 0, 0, 0, 0, 0],
+    );
+    judged(
+        b"16 16 16 16",
+        0,
+        &[16, 16, 16, 16, 0, 0, 0, 0, 0, 0, 0, 0, 0, 0, 0],
+    );
+    judged(
+        b"17 1 of kind 0",
+        0,
+        &[17, 1, 0, 0, 0, 0, 0, 0, 0, 0, 0, 0, 0, 0, 0],
+    );
+    judged(
+        b"17 1 of kind 1",
+        1,
+        &[17, 1, 0, 0, 0, 0, 0, 0, 0, 0, 0, 0, 0, 0, 0],
+    );
+    judged(b"kind 2", 2, &[1, 0, 0, 0, 0, 0, 0, 0, 0, 0, 0, 0, 0, 0, 0]);
+    worst(
+        b"worst 18 4 5",
+        &[18, 4, 5, 0, 0, 0, 0, 0, 0, 0, 0, 0, 0, 0, 0],
+        1024,
+    );
+    worst(
+        b"worst of 1025",
+        &[1, 0, 0, 0, 0, 0, 0, 0, 0, 0, 0, 0, 0, 0, 0],
+        1025,
+    );
+}
+
+fn bodies() {
+    read(
+        b"vbyte 80 00",
+        &[1, 0, 0, 0, 0, 0, 0, 0, 0, 0, 0, 0, 0, 0, 0],
+        &[0x80, 0x00],
+        1,
+    );
+    read(
+        b"vbyte fifth byte 10",
+        &[1, 0, 0, 0, 0, 0, 0, 0, 0, 0, 0, 0, 0, 0, 0],
+        &[0xff, 0xff, 0xff, 0xff, 0x10],
+        1,
+    );
+    read(
+        b"16 1 ending 00 02",
+        &[16, 1, 0, 0, 0, 0, 0, 0, 0, 0, 0, 0, 0, 0, 0],
+        &[0xe8, 0x03, 0, 0, 0, 2],
+        2,
+    );
+    read(
+        b"16 1 ending 01 02",
+        &[16, 1, 0, 0, 0, 0, 0, 0, 0, 0, 0, 0, 0, 0, 0],
+        &[0xe8, 0x03, 0, 0, 1, 2],
+        2,
+    );
+}
+
+// Reading empty fields of the last group as numbers, one added to 4294967295 in 32 bits, 002's end bit, room left in a block.
+fn earlier_errors() {
+    looked(b"fifth of five in groups", 2, &[0, 1, 2, 3, 4, 0, 5], 5, 4);
+    looked(b"an unused field set", 2, &[0, 1, 2, 3, 4, 4, 5], 5, 4);
+    looked(
+        b"gamma of 4294967295",
+        5,
+        &[0, 0, 0, 0, 0x80, 0, 0, 0, 0],
+        1,
+        0,
+    );
+    looked(b"delta of 4294967295", 6, &[0x04, 0x20, 0, 0, 0, 0], 1, 0);
+    looked(b"vbyte 1 by the end bit of 002", 1, &[0x81], 1, 0);
+    looked(
+        b"past a block with room",
+        3,
+        &[0xe0, 1, 2, 3, 4, 5, 0, 0, 0, 0xfe, 6, 0, 0, 0, 0, 0, 0, 0],
+        6,
+        5,
+    );
+    read(
+        b"a block with room",
+        &[3, 0, 0, 0, 0, 0, 0, 0, 0, 0, 0, 0, 0, 0, 0],
+        &[0xe0, 1, 2, 3, 4, 5, 0, 0, 0, 0xfe, 6, 0, 0, 0, 0, 0, 0, 0],
+        6,
+    );
+}
+
+fn main() {
+    plans();
+    bodies();
+    earlier_errors();
+}
