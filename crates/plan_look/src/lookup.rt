@@ -1,0 +1,179 @@
+// One number by a plan, with no work lent: what is needed of inner numbers is collected once, or added up as it is read.
+use crate::firsts::firsts_plan;
+use crate::lists::lesser;
+use crate::lists::long;
+use crate::lists::number_of;
+use crate::lists::seek_run;
+use crate::lists::total_firsts;
+use crate::runs::FAULT;
+use crate::runs::Header;
+use crate::runs::Run;
+use crate::runs::header_of;
+use codes::Total;
+use codes::firsts_code;
+use codes::lookup_code;
+use codes::total_code;
+use fields::word_at;
+use judge::stage::Stage;
+use judge::stage::plan_end;
+use judge::stage::stage_at;
+use meaning::Found;
+use meaning::Offset;
+use meaning::Place;
+ghost use mathlib.Core.Path.{_≡_};
+ghost use Prim.Native.Nat.{_+_, _≤_};
+ghost use Rattle.meaning.specs.Codes.{codeOf, lookCode};
+ghost use Rattle.meaning.specs.Limits.{mostStages};
+ghost use Rattle.meaning.specs.Plan.{planAt, planOf, planSize, runs as runsPlan};
+ghost use Rattle.meaning.specs.Says.{foundSays};
+ghost use Rattle.meaning.specs.Stages.{look, seek, total};
+ghost use Rattle.codes.specs.Firsts.{Looked};
+ghost use Rattle.plan_look.specs.Told.{runSays};
+ghost use Rattle.codes.specs.Started.{totalSays};
+
+// The sum of the numbers through a place, below a stage: they are collected first.
+fn total_stage(
+    plan: &[u8],
+    pos: Offset,
+    stages: usize,
+    body: &[u8],
+    n: usize,
+    place: Place,
+) -> Total
+    requires { ⌜ (Looked (now body) n (place .number)) × (stages ≤ 2) ⌝ }
+    ensures { λ r. ⌜ totalSays r ≡ total (look (planAt stages (now (plan .entry)) (pos .byte)) (now (body .entry)) n) (place .number + 1) ⌝ }
+{
+    let mut work = [0u32; 5120];
+    let start = Place { number: 0 };
+    let k = place.number + 1;
+    let got = firsts_plan(plan, pos, stages, body, n, k, &mut work, start);
+    total_firsts(&work, start, got, k)
+}
+
+// The sum of the numbers through a place: a code adds them up as it reads.
+fn total_plan(plan: &[u8], pos: Offset, stages: usize, body: &[u8], n: usize, place: Place) -> Total
+    requires { ⌜ (Looked (now body) n (place .number)) × (stages ≤ 2) ⌝ }
+    ensures { λ r. ⌜ totalSays r ≡ total (look (planAt stages (now (plan .entry)) (pos .byte)) (now (body .entry)) n) (place .number + 1) ⌝ }
+{
+    let Stage::Code(code) = stage_at(plan, pos, stages) else {
+        return total_stage(plan, pos, stages, body, n, place);
+    };
+    total_code(code, body, n, place)
+}
+
+// The run that holds a place of n, its lengths by a stage.
+fn run_by_stage(
+    plan: &[u8],
+    pos: Offset,
+    stages: usize,
+    body: &[u8],
+    runs: usize,
+    n: usize,
+    place: Place,
+) -> Run
+    requires { ⌜ (Looked (now body) n (place .number)) × (runs ≤ n) × (stages ≤ 2) ⌝ }
+    ensures { λ r. ⌜ runSays r ≡ seek (look (planAt stages (now (plan .entry)) (pos .byte)) (now (body .entry)) runs) n (place .number) runs 0 0 ⌝ }
+{
+    let mut work = [0u32; 5120];
+    let start = Place { number: 0 };
+    let few = lesser(runs, place.number + 1);
+    let got = firsts_plan(plan, pos, stages, body, runs, few, &mut work, start);
+    seek_run(&work, start, got, runs, n, place)
+}
+
+// The same, its lengths by a code.
+fn run_by_code(code: u8, body: &[u8], runs: usize, n: usize, place: Place) -> Run
+    requires { ⌜ (Looked (now body) n (place .number)) × (runs ≤ n) ⌝ }
+    ensures { λ r. ⌜ runSays r ≡ seek (lookCode (codeOf code) (now (body .entry)) runs) n (place .number) runs 0 0 ⌝ }
+{
+    let mut work = [0u32; 1024];
+    let start = Place { number: 0 };
+    let few = lesser(runs, place.number + 1);
+    let got = firsts_code(code, body, runs, few, &mut work, start);
+    seek_run(&work, start, got, runs, n, place)
+}
+
+// The run that holds a place of n: no more lengths are asked for than places, since each is one at least.
+fn find_run(
+    plan: &[u8],
+    pos: Offset,
+    stages: usize,
+    body: &[u8],
+    runs: usize,
+    n: usize,
+    place: Place,
+) -> Run
+    requires { ⌜ (Looked (now body) n (place .number)) × (runs ≤ n) × (stages ≤ 2) ⌝ }
+    ensures { λ r. ⌜ runSays r ≡ seek (look (planAt stages (now (plan .entry)) (pos .byte)) (now (body .entry)) runs) n (place .number) runs 0 0 ⌝ }
+{
+    let Stage::Code(code) = stage_at(plan, pos, stages) else {
+        return run_by_stage(plan, pos, stages, body, runs, n, place);
+    };
+    run_by_code(code, body, runs, n, place)
+}
+
+// The number at a place of n.
+pub fn lookup_plan(
+    plan: &[u8],
+    pos: Offset,
+    stages: usize,
+    body: &[u8],
+    n: usize,
+    place: Place,
+) -> Found
+    requires { ⌜ (Looked (now body) n (place .number)) × (stages ≤ mostStages) ⌝ }
+    ensures { λ r. ⌜ foundSays r ≡ look (planAt stages (now (plan .entry)) (pos .byte)) (now (body .entry)) n (place .number) ⌝ }
+{
+    match stage_at(plan, pos, stages) {
+        Stage::Bad => Found::Refused(FAULT),
+        Stage::Code(code) => lookup_code(code, body, n, place),
+        Stage::Reference(next, less) => {
+            if body.len() < 4 {
+                return Found::Refused(FAULT);
+            }
+            let m = long(word_at(body, 0));
+            match lookup_plan(plan, next, less, &body[4..], n, place) {
+                Found::Refused(e) => Found::Refused(e),
+                Found::Number(x) => number_of(m + long(x)),
+            }
+        }
+        Stage::Differences(next, less) => match total_plan(plan, next, less, body, n, place) {
+            Total::Refused(e) => Found::Refused(e),
+            Total::Sum(sum) => number_of(sum),
+        },
+        Stage::Runs(next, less) => lookup_runs(plan, next, less, body, n, place),
+    }
+}
+
+// By a run stage whose two inner plans begin at `pos`.
+fn lookup_runs(
+    plan: &[u8],
+    pos: Offset,
+    stages: usize,
+    body: &[u8],
+    n: usize,
+    place: Place,
+) -> Found
+    requires { ⌜ (Looked (now body) n (place .number)) × (stages ≤ 2) ⌝ }
+    ensures { λ r. ⌜ foundSays r ≡ look (runsPlan (planAt stages (now (plan .entry)) (pos .byte)) (planAt stages (now (plan .entry)) (pos .byte + planSize (planAt stages (now (plan .entry)) (pos .byte))))) (now (body .entry)) n (place .number) ⌝ }
+{
+    match header_of(body, n) {
+        Header::Refused(e) => Found::Refused(e),
+        Header::Runs(runs, end) => {
+            let split = end.byte;
+            let second = plan_end(plan, pos, stages);
+            match find_run(plan, second, stages, &body[split..], runs, n, place) {
+                Run::Refused(e) => Found::Refused(e),
+                Run::At(run) => lookup_plan(plan, pos, stages, &body[8..split], runs, run),
+            }
+        }
+    }
+}
+
+// The number at a place of a column of n numbers, by the column's plan.
+pub fn lookup_list(plan: &[u8], body: &[u8], n: usize, place: Place) -> Found
+    requires { ⌜ Looked (now body) n (place .number) ⌝ }
+    ensures { λ r. ⌜ foundSays r ≡ look (planOf (now (plan .entry))) (now (body .entry)) n (place .number) ⌝ }
+{
+    lookup_plan(plan, Offset { byte: 0 }, 3, body, n, place)
+}

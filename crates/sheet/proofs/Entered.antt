@@ -1,0 +1,53 @@
+-- A column by its entry. Assumes nothing.
+use Prim.Native.Nat.{ℕ, _+_, _-_, _*_, _≤_}
+use mathlib.Core.Path.{_≡_, ap, ap₂}
+use mathlib.Core.List.{List}
+use native.Mathlib.Omega.{arith}
+use lib.ListN.{length, take, drop, length-take, length-drop}
+use Rattle.meaning.specs.Limits.{planBytes, mostBytes, mostNumbers}
+use Rattle.meaning.specs.Places.{Below}
+use Rattle.meaning.specs.Plan.{Plan, planOf}
+use Rattle.meaning.specs.Sheet.{columnAt}
+use Rattle.meaning.proofs.Bounds.{below-take, below-drop}
+use Rattle.table.specs.Entries.{Here, EntryIs}
+use Rattle.table.specs.declared.Entry.{Entry}
+use Rattle.table.proofs.Sounds.{sound-sheet, sound-column}
+use Rattle.sheet.specs.Opened.{columnOf, Readable}
+
+-- the parts of the sheet that are lent for an entry's plan and body
+abbrev pub planPart : List ℕ → Entry → List ℕ
+planPart sheet e = take (e .plan .byte + planBytes - e .plan .byte) (drop (e .plan .byte) sheet)
+
+abbrev pub bodyPart : List ℕ → Entry → List ℕ
+bodyPart sheet e = take (e .body .byte + e .size - e .body .byte) (drop (e .body .byte) sheet)
+
+module _ (sheet : List ℕ) (e : Entry) where
+  pub plan-part : planPart sheet e ≡ columnOf sheet e .plan
+  plan-part = let n : e .plan .byte + planBytes - e .plan .byte ≡ planBytes = omega arith in ap (λ (j : ℕ). take j (drop (e .plan .byte) sheet)) n
+
+  pub body-part : bodyPart sheet e ≡ columnOf sheet e .body
+  body-part = let n : e .body .byte + e .size - e .body .byte ≡ e .size = omega arith in ap (λ (j : ℕ). take j (drop (e .body .byte) sheet)) n
+
+  -- whatever is made of them is made of the column
+  pub of-column : {X : Type 0} (f : Plan → List ℕ → ℕ → X) → f (planOf (planPart sheet e)) (bodyPart sheet e) (e .count) ≡ f (planOf (columnOf sheet e .plan)) (columnOf sheet e .body) (columnOf sheet e .count)
+  of-column f = ap₂ (λ (p b : List ℕ). f (planOf p) b (e .count)) plan-part body-part
+
+  pub body-short : length sheet ≤ mostBytes → length (bodyPart sheet e) ≤ mostBytes
+  body-short h = omega (arith, length-take (e .body .byte + e .size - e .body .byte) (drop (e .body .byte) sheet), length-drop (e .body .byte) sheet)
+
+  pub body-bytes : Below 256 sheet → Below 256 (columnOf sheet e .body)
+  body-bytes b = below-take 256 (e .size) (drop (e .body .byte) sheet) (below-drop 256 (e .body .byte) sheet b)
+
+module _ (sheet : List ℕ) (k : ℕ) (e : Entry) (is : EntryIs sheet k e) where
+  pub column-of : columnOf sheet e ≡ columnAt sheet k
+  column-of = λ i. record { kind = is .kind i; plan = is .plan i; count = is .count i; size = is .size i; body = is .body i }
+
+  module _ (here : Here sheet k) where
+    pub count-few : e .count ≤ mostNumbers
+    count-few = omega (arith, is .count, sound-column sheet (here .sounds) k (here .exists) .count)
+
+    pub sheet-short : length sheet ≤ mostBytes
+    sheet-short = sound-sheet sheet (here .sounds) .most
+
+    pub readable : (work : List ℕ) → 7 * e .count ≤ length work → Readable sheet work e
+    readable work h = record { planFits = is .planFits; bodyFits = is .bodyFits; short = sheet-short; few = count-few; room = h }

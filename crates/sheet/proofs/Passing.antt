@@ -1,0 +1,45 @@
+-- In a sheet that passes the check every column is read whole, and a lookup at each of its places gives the number there. Assumes only the laws of the codes.
+use Prim.Native.Nat.{ℕ, _*_, _≤_, _<_}
+use mathlib.Core.Path.{_≡_, sym, ap, _∙_, subst}
+use mathlib.Core.List.{List}
+use native.Mathlib.Omega.{arith}
+use lib.ListN.{length, getD, drop}
+use Rattle.meaning.specs.Answer.{given, list, passed}
+use Rattle.meaning.specs.Operations.{check, column, readSheet, lookSheet, numbersAt}
+use Rattle.meaning.specs.Places.{Below}
+use Rattle.meaning.specs.Plan.{planOf}
+use Rattle.meaning.specs.Sheet.{columnAt, readColumn}
+use Rattle.meaning.proofs.Bounds.{below-take, below-drop}
+use Rattle.stages.proofs.Looks.{looks}
+use Rattle.table.specs.Offsets.{columnCount, sizeAt, bodyOffset}
+use Rattle.table.proofs.ColumnLaws.{column-there}
+use Rattle.table.proofs.Columns.{body-is}
+use Rattle.sheet.proofs.Checks.{check-passed, column-passed}
+use Rattle.sheet.proofs.LookSheets.{look-there}
+use Rattle.sheet.proofs.ReadColumns.{column-many}
+use Rattle.sheet.proofs.ReadSheets.{read-all}
+use Rattle.codes.proofs.Numbered.{laws}
+
+-- a sheet of bytes that passed the check with some work, and one of its columns
+module _ (sheet : List ℕ) (bytes : Below 256 sheet) (work : ℕ) (passes : check sheet work ≡ passed) (k : ℕ) (there : k < columnCount sheet) where
+  found : column sheet k ≡ given (columnAt sheet k)
+  found = column-there sheet k (check-passed sheet work passes .ready .sounds) there
+
+  body-bytes : Below 256 (columnAt sheet k .body)
+  body-bytes = subst (Below 256) (sym (body-is sheet k there)) (below-take 256 (sizeAt sheet k) (drop (bodyOffset sheet k) sheet) (below-drop 256 (bodyOffset sheet k) sheet bytes))
+
+  pub numbers-read : readColumn (columnAt sheet k) ≡ given (numbersAt sheet k)
+  unfolding numbersAt
+  numbers-read = let (xs, e) = column-passed sheet work passes k there in e ∙ ap (λ (l : List ℕ). given l) (sym (ap list e))
+
+  pub numbers-many : length (numbersAt sheet k) ≡ columnAt sheet k .count
+  numbers-many = column-many (columnAt sheet k) (numbersAt sheet k) body-bytes numbers-read .1
+
+  pub reads-all : (w room : ℕ) → 7 * columnAt sheet k .count ≤ w → columnAt sheet k .count ≤ room → readSheet sheet k w room ≡ given (numbersAt sheet k)
+  reads-all w room h l = read-all sheet k w room (columnAt sheet k) found h l ∙ numbers-read
+
+  pub looks-all : (place : ℕ) → place < columnAt sheet k .count → lookSheet sheet k place ≡ given (getD (numbersAt sheet k) place 0)
+  looks-all place h =
+      look-there sheet k place (columnAt sheet k) found h
+      ∙ looks (λ c i. laws c) (planOf (columnAt sheet k .plan)) (columnAt sheet k .body) (columnAt sheet k .count) (numbersAt sheet k) body-bytes
+      (column-many (columnAt sheet k) (numbersAt sheet k) body-bytes numbers-read .0) place (omega (arith, numbers-many))

@@ -1,0 +1,100 @@
+-- A column read: its plan's reading, and for kind 1 that the list rises. Assumes only the laws of the codes.
+use Prim.Native.Nat.{ℕ, _+_, _≤_}
+use mathlib.Core.Path.{_≡_, refl, sym, ap, _∙_, subst}
+use mathlib.Core.Bool.{true, false}
+use mathlib.Core.List.{List}
+use native.Mathlib.Omega.{arith}
+use lib.Dec.{eqb}
+use lib.ListN.{length, length-take}
+use borrow.Author.Tests.{eq-eqb, ne-eqb}
+use Rattle.meaning.specs.Answer.{Answer, given, refused, bind, need, amount}
+use Rattle.meaning.specs.Limits.{rising, fault}
+use Rattle.meaning.specs.Lists.{rises}
+use Rattle.meaning.specs.Places.{part, Below, Got}
+use Rattle.meaning.specs.Plan.{planOf}
+use Rattle.meaning.specs.Says.{readingSays}
+use Rattle.meaning.specs.Sheet.{Column, ofKind, readColumn}
+use Rattle.meaning.specs.Stages.{read}
+use Rattle.meaning.specs.declared.Reading.{Reading}
+use Rattle.meaning.specs.declared.Reading.the-variants.{Whole, Refused}
+use Rattle.meaning.proofs.Answers.{bind-given, need-given}
+use Rattle.stages.proofs.Back.{back}
+use Rattle.stages.proofs.Gots.{got-refused, got-given, got-stop, got-then}
+use Rattle.table.specs.declared.Entry.{Entry}
+use Rattle.sheet.specs.Opened.{columnOf}
+use Rattle.sheet.proofs.Entered.{planPart, bodyPart, of-column}
+use Rattle.codes.proofs.Numbered.{laws}
+
+-- what is asked of a list that was read for a kind
+abbrev keep : ℕ → List ℕ → Answer (List ℕ)
+keep kind xs = need (ofKind kind xs) fault (given xs)
+
+-- a refusal told is the answer's
+pub got-not : (a : Answer (List ℕ)) (w w₁ : List ℕ) (q : Reading) → Got a 0 w w₁ q → (z : ℕ) → q ≡ Refused z → a ≡ refused z
+got-not a w w₁ q so z e = go a (sym (ap readingSays e) ∙ so .told)
+  where
+    go : (b : Answer (List ℕ)) → refused z ≡ amount b → b ≡ refused z
+    go (given xs) t = let y : _≡_ {A = ℕ} 0 1 = cc in absurd (omega arith)
+    go (refused y) t = let same : z ≡ y = cc in ap (λ (k : ℕ). refused k) (sym same)
+
+any-kept : (kind : ℕ) → eqb kind rising ≡ false → (a : Answer (List ℕ)) → a ≡ bind a (keep kind)
+unfolding ofKind
+any-kept kind t (given xs) = rw t
+any-kept kind t (refused z) = refl
+
+-- a list that stands in work where it is
+got-part : (w : List ℕ) (n : ℕ) → length (part w 0 n) ≡ n → Got (given (part w 0 n)) 0 w w (Whole n)
+got-part w n many =
+    record {
+      told = ap (λ (j : ℕ). given j) (sym many);
+      here = λ xs i. let x : part w 0 n ≡ xs = cc in rw (← x, many);
+      kept = refl;
+    }
+
+rising-is : (kind : ℕ) (xs : List ℕ) → kind ≡ rising → ofKind kind xs ≡ rises xs
+unfolding ofKind
+rising-is kind xs e = rw (eq-eqb kind rising e)
+
+-- what was read from the parts that are lent for an entry
+module _ (sheet : List ℕ) (e : Entry) (w w₁ : List ℕ) (q : Reading) (lent : Got (read (planOf (planPart sheet e)) (bodyPart sheet e) (e .count)) 0 w w₁ q) where
+  abbrev all : Answer (List ℕ)
+  all = read (planOf (columnOf sheet e .plan)) (columnOf sheet e .body) (columnOf sheet e .count)
+
+  so : Got all 0 w w₁ q
+  so = subst (λ (a : Answer (List ℕ)). Got a 0 w w₁ q) (of-column sheet e read) lent
+
+  pub column-any : (e .kind ≡ rising → ⊥) → Got (readColumn (columnOf sheet e)) 0 w w₁ q
+  unfolding readColumn
+  column-any h = subst (λ (a : Answer (List ℕ)). Got a 0 w w₁ q) (any-kept (e .kind) (ne-eqb (e .kind) rising h) all) so
+
+  pub column-stop : (z : ℕ) → q ≡ Refused z → Got (readColumn (columnOf sheet e)) 0 w w₁ (Refused z)
+  unfolding readColumn
+  column-stop z t = got-stop all 0 w w₁ q so (keep (e .kind)) z t
+
+  module _ (n : ℕ) (t : q ≡ Whole n) where
+    pub column-room : 0 + n ≤ length w₁
+    column-room = omega (arith, got-given all 0 w w₁ q so n t .1, length-take n w₁)
+
+    module _ (r : e .kind ≡ rising) where
+      pub column-risen : true ≡ rises (part w₁ 0 n) → Got (readColumn (columnOf sheet e)) 0 w w₁ (Whole n)
+      unfolding readColumn
+      column-risen y =
+          let k : keep (e .kind) (part w₁ 0 n) ≡ given (part w₁ 0 n) = rw (rising-is (e .kind) (part w₁ 0 n) r, ← y) in
+          got-then all 0 w w₁ q so (keep (e .kind)) n t w₁ (Whole n)
+          (subst (λ (a : Answer (List ℕ)). Got a 0 w₁ w₁ (Whole n)) (sym k) (got-part w₁ n (got-given all 0 w w₁ q so n t .1)))
+
+      pub column-falls : false ≡ rises (part w₁ 0 n) → Got (readColumn (columnOf sheet e)) 0 w w₁ (Refused fault)
+      unfolding readColumn
+      column-falls y =
+          got-then all 0 w w₁ q so (keep (e .kind)) n t w₁ (Refused fault)
+          (got-refused (keep (e .kind) (part w₁ 0 n)) 0 w₁ w₁ fault (rw (rising-is (e .kind) (part w₁ 0 n) r, ← y)) refl)
+
+-- a column that was read has as many numbers as its entry says
+pub column-many : (c : Column) (xs : List ℕ) → Below 256 (c .body) → readColumn c ≡ given xs → (read (planOf (c .plan)) (c .body) (c .count) ≡ given xs) × (length xs ≡ c .count)
+unfolding readColumn
+column-many c xs b e =
+    let (ys, er, ek) = bind-given (read (planOf (c .plan)) (c .body) (c .count)) (keep (c .kind)) xs e in
+    let (o, g) = need-given (ofKind (c .kind) ys) fault (given ys) xs ek in
+    let same : ys ≡ xs = cc in
+    let r : read (planOf (c .plan)) (c .body) (c .count) ≡ given xs = er ∙ g in
+    (r, back (λ c h. laws c) (planOf (c .plan)) (c .body) (c .count) xs b r .1)

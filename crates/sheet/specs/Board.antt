@@ -1,0 +1,50 @@
+-- The board's rules taken apart, and endings counted one by one.
+use Prim.Native.Nat.{ℕ, _+_, _≤_, _<_, _^_}
+use mathlib.Core.Path.{_≡_}
+use mathlib.Core.Bool.{Bool, _&&_, cond}
+use mathlib.Core.List.{List}
+use lib.Dec.{leb, eqb}
+use lib.ListN.{length, take}
+use Rattle.meaning.specs.Answer.{Verdict, passed, ask}
+use Rattle.meaning.specs.Limits.{rising, badBoard}
+use Rattle.meaning.specs.Lists.{all, differ}
+use Rattle.meaning.specs.Operations.{check, numbersAt, tallied}
+use Rattle.meaning.specs.Sheet.{columnsOf, columnAt}
+use Rattle.meaning.specs.declared.Tally.{Tally}
+use Rattle.table.specs.Offsets.{columnCount}
+
+-- a column of a sheet that passed the check with so much work
+pub record Known (sheet : List ℕ) (k work : ℕ) : Type 0 where
+  pub checked : check sheet work ≡ passed
+  pub exists : k < columnCount sheet
+
+-- its n numbers stand at the start of work
+pub record ReadAgain (sheet : List ℕ) (k : ℕ) (work : List ℕ) (n : ℕ) : Type 0 where
+  pub fits : n ≤ length work
+  pub here : take n work ≡ numbersAt sheet k
+
+-- the rules but for the endings: columns 0 and 1 exist with equal counts, column 0 is kind 1 with no equal neighbours
+abbrev pub jobsHold : List ℕ → Bool
+jobsHold sheet =
+    leb 2 (length (columnsOf sheet))
+    && (eqb (columnAt sheet 0 .count) (columnAt sheet 1 .count)
+    && (eqb (columnAt sheet 0 .kind) rising && differ (numbersAt sheet 0)))
+
+-- the verdict on some endings, and their tallies
+abbrev pub endingsTold : List ℕ → Verdict × Tally
+endingsTold endings = tallied (ask (all (λ e. leb e 256) endings) badBoard) endings
+
+-- an ending, and tallies that can be one more
+pub record Countable (t : Tally) (ending : ℕ) : Type 0 where
+  pub most : ending ≤ 256
+  pub passed : t .passed + 1 < 2 ^ 64
+  pub failed : t .failed + 1 < 2 ^ 64
+  pub unended : t .unended + 1 < 2 ^ 64
+
+abbrev pub withEnding : Tally → ℕ → Tally
+withEnding t e =
+    record {
+      passed = t .passed + cond (eqb 0 e) 1 0;
+      failed = t .failed + cond (leb 1 e && leb e 255) 1 0;
+      unended = t .unended + cond (eqb 256 e) 1 0;
+    }

@@ -1,0 +1,3 @@
+-- What this crate's functions ask and answer, in the meaning's words.
+pub mod Opened
+pub mod Board

@@ -1,0 +1,96 @@
+-- Orders in turn: what the loops know that have judged the plans, or asked the lists, below k. Assumes nothing.
+use Prim.Native.Nat.{ℕ, _+_, _*_, _≤_, _<_}
+use mathlib.Core.Path.{_≡_, refl, sym, ap, ap₂, _∙_}
+use mathlib.Core.Bool.{Bool, true, false, not}
+use mathlib.Core.List.{List}
+use native.Mathlib.Omega.{arith}
+use lib.ListN.{length, getD}
+use borrow.Author.Tests.{eq-eqb, ne-eqb, not-true, not-false}
+use Rattle.meaning.specs.Answer.{inTurn}
+use Rattle.meaning.specs.Limits.{planBytes, rising}
+use Rattle.meaning.specs.Lists.{all, sum, rises}
+use Rattle.meaning.specs.Places.{part}
+use Rattle.meaning.specs.Plan.{judgePlan, planUsed}
+use Rattle.meaning.specs.Says.{judgedSays}
+use Rattle.meaning.specs.Sheet.{ofKind}
+use Rattle.meaning.specs.declared.Judged.{Judged}
+use Rattle.meaning.specs.declared.Judged.the-variants as judged
+use Rattle.table.proofs.InTurn.{PassedBelow, below-turn, below-refuse, below-end}
+use Rattle.table.proofs.Lists.{HoldBelow, hold-turn, hold-fail, hold-end}
+use Rattle.writer.specs.Orders.{columnsBy, blankListed, listStart, listJudged, listRises, verdictTold}
+use Rattle.writer.proofs.Columns.{column-count, column-is}
+use Rattle.writer.proofs.Sums.{start-next}
+
+-- ---- plans
+abbrev pub JudgedBelow : List ℕ → List ℕ → ℕ → Type 0
+JudgedBelow kinds plans k = (counts numbers : List ℕ) → PassedBelow listJudged (columnsBy kinds plans counts numbers) k
+
+abbrev pub JudgedAs : List ℕ → List ℕ → Judged → Type 0
+JudgedAs kinds plans r = (counts numbers : List ℕ) → judgedSays r ≡ verdictTold (inTurn listJudged 0 (columnsBy kinds plans counts numbers))
+
+module _ (kinds plans : List ℕ) (k : ℕ) (so : JudgedBelow kinds plans k) where
+  pub judged-end : length kinds ≤ k → JudgedAs kinds plans judged.Passed
+  judged-end h counts numbers =
+      ap verdictTold (sym (below-end listJudged (columnsBy kinds plans counts numbers) k (so counts numbers) (omega (arith, column-count kinds plans counts numbers))))
+
+  module _ (h : k < length kinds) (plan : List ℕ) (ep : plan ≡ planUsed (getD kinds k 0) (part plans (planBytes * k) planBytes))
+      (r : Judged) (is : judgedSays r ≡ judgePlan (getD kinds k 0) plan) where
+    judged-here : (counts numbers : List ℕ) → listJudged (getD (columnsBy kinds plans counts numbers) k blankListed) ≡ judgedSays r
+    judged-here counts numbers =
+        ap listJudged (column-is kinds plans counts numbers k h) ∙ ap (judgePlan (getD kinds k 0)) (sym ep) ∙ sym is
+
+    pub judged-turn : r ≡ judged.Passed → JudgedBelow kinds plans (k + 1)
+    judged-turn e counts numbers =
+        below-turn listJudged (columnsBy kinds plans counts numbers) blankListed k (so counts numbers) (omega (arith, column-count kinds plans counts numbers))
+        tt (judged-here counts numbers ∙ ap judgedSays e)
+
+    pub judged-refuse : (z : ℕ) → r ≡ judged.Refused z → JudgedAs kinds plans (judged.Refused z)
+    judged-refuse z e counts numbers =
+        ap verdictTold
+        (sym (below-refuse listJudged (columnsBy kinds plans counts numbers) blankListed k (so counts numbers) (omega (arith, column-count kinds plans counts numbers))
+        z (judged-here counts numbers ∙ ap judgedSays e)))
+
+-- ---- a list of its kind
+module _ (kind : ℕ) (xs : List ℕ) where
+  pub kind-rising : kind ≡ rising → (r : Bool) → r ≡ rises xs → r ≡ ofKind kind xs
+  unfolding ofKind
+  kind-rising h r e = rw (eq-eqb kind rising h) e
+
+  pub kind-any : (kind ≡ rising → ⊥) → true ≡ ofKind kind xs
+  unfolding ofKind
+  kind-any h = rw (ne-eqb kind rising h)
+
+-- ---- lists
+pub record RisingBelow (kinds counts numbers : List ℕ) (from k : ℕ) : Type 0 where
+  pub starts : from ≡ listStart counts k
+  pub below : (plans : List ℕ) → HoldBelow listRises (columnsBy kinds plans counts numbers) k
+
+abbrev pub AllRise : List ℕ → List ℕ → List ℕ → Bool → Type 0
+AllRise kinds counts numbers t = (plans : List ℕ) → t ≡ all listRises (columnsBy kinds plans counts numbers)
+
+pub rising-start : (kinds counts numbers : List ℕ) → RisingBelow kinds counts numbers 0 0
+unfolding sum
+rising-start kinds counts numbers = record { starts = refl; below = λ plans. refl }
+
+module _ (kinds counts numbers : List ℕ) (from k : ℕ) (so : RisingBelow kinds counts numbers from k) where
+  pub rising-end : length kinds ≤ k → AllRise kinds counts numbers true
+  rising-end h plans = sym (hold-end listRises (columnsBy kinds plans counts numbers) k (so .below plans) (omega (arith, column-count kinds plans counts numbers)))
+
+  module _ (h : k < length kinds) (n : ℕ) (en : n ≡ getD counts k 0) (t : Bool) (is : t ≡ ofKind (getD kinds k 0) (part numbers from n)) where
+    rises-here : (plans : List ℕ) → listRises (getD (columnsBy kinds plans counts numbers) k blankListed) ≡ t
+    rises-here plans =
+        ap listRises (column-is kinds plans counts numbers k h)
+        ∙ ap₂ (λ (i j : ℕ). ofKind (getD kinds k 0) (part numbers i j)) (sym (so .starts)) (sym en)
+        ∙ sym is
+
+    pub rising-fail : not t ≡ true → AllRise kinds counts numbers false
+    rising-fail e plans =
+        sym (hold-fail listRises (columnsBy kinds plans counts numbers) blankListed k (so .below plans) (omega (arith, column-count kinds plans counts numbers)) (rises-here plans ∙ not-true t e))
+
+    pub rising-turn : length counts ≡ length kinds → not t ≡ false → RisingBelow kinds counts numbers (from + n) (k + 1)
+    rising-turn l e =
+        record {
+          starts = omega (arith, so .starts, start-next counts k (omega arith));
+          below = λ plans.
+              hold-turn listRises (columnsBy kinds plans counts numbers) blankListed k (so .below plans) (omega (arith, column-count kinds plans counts numbers)) (rises-here plans ∙ not-false t e);
+        }

@@ -1,0 +1,70 @@
+// Sheets written: orders as slices of kinds, plans and counts, and one slice with all lists joined.
+// The pass that lays a sheet down runs twice: over a byte of its own, which tells the size, and over the output once that is known to fit.
+use crate::orders::judge_orders;
+use crate::orders::largest_of;
+use crate::orders::lists_rise;
+use crate::orders::orders_hold;
+use crate::sheets::MOST_BYTES;
+use crate::sheets::put_sheet;
+use meaning::Judged;
+use meaning::Sized;
+ghost use mathlib.Core.Path.{_≡_};
+ghost use lib.ListN.{length};
+ghost use Rattle.meaning.specs.Answer.{amount, filled};
+ghost use Rattle.meaning.specs.Operations.{writeApart};
+ghost use Rattle.meaning.specs.Says.{sizedSays};
+
+mod orders;
+mod plans;
+mod sheets;
+
+// Refused: orders that do not hold.
+const BAD_ORDERS: u8 = 11;
+
+// Refused: a list of kind 1 that falls.
+const FALLS: u8 = 10;
+
+// Refused: a work slice that is too short.
+const SHORT_WORK: u8 = 8;
+
+// Refused: a sheet above 65,536 bytes, or an output shorter than it.
+const NO_ROOM: u8 = 7;
+
+// Writes a sheet at the start of an output, with work for 7 times the largest list. A refusal leaves the output as it was.
+pub fn write(
+    kinds: &[u8],
+    plans: &[u8],
+    counts: &[u32],
+    joined: &[u32],
+    work: &mut [u32],
+    out: &mut [u8],
+) -> Sized
+    ensures { λ r. ⌜ (sizedSays r ≡ amount (writeApart (now (kinds .entry)) (now (plans .entry)) (now (counts .entry)) (now (joined .entry)) (length (now (work .entry))) (length (now (out .entry))))) × (now (out .exit) ≡ filled (writeApart (now (kinds .entry)) (now (plans .entry)) (now (counts .entry)) (now (joined .entry)) (length (now (work .entry))) (length (now (out .entry)))) (now (out .entry))) ⌝ }
+{
+    let held = orders_hold(kinds, plans, counts, joined);
+    if !held {
+        return Sized::Refused(BAD_ORDERS);
+    }
+    let judged = judge_orders(kinds, plans);
+    if let Judged::Refused(e) = judged {
+        return Sized::Refused(e);
+    }
+    let rise = lists_rise(kinds, counts, joined);
+    if !rise {
+        return Sized::Refused(FALLS);
+    }
+    let most = largest_of(counts);
+    if work.len() < 7 * most {
+        return Sized::Refused(SHORT_WORK);
+    }
+    let mut spare = [0u8; 1];
+    let size = put_sheet(kinds, plans, counts, joined, work, &mut spare);
+    if MOST_BYTES < size {
+        return Sized::Refused(NO_ROOM);
+    }
+    if out.len() < size {
+        return Sized::Refused(NO_ROOM);
+    }
+    let end = put_sheet(kinds, plans, counts, joined, work, out);
+    Sized::Bytes(end)
+}
