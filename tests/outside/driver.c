@@ -9,7 +9,7 @@
 #include <stdlib.h>
 #include <string.h>
 #include <sys/mman.h>
-#include <unistd.h>
+#include <sys/time.h>
 
 enum { JUDGE, WORST, WRITE, CHECK, READ, LOOKUP, FETCH, BOARD };
 enum { INPUTS = 4, WORK = INPUTS, OUT, ANSWER, ANSWERS = 4, SLOTS = ANSWER + ANSWERS };
@@ -38,7 +38,7 @@ static void set_up(void)
 {
     static uint8_t stack[1 << 16];                          // the library's own stack may be what ran out
     sigaltstack(&(stack_t){.ss_sp = stack, .ss_size = sizeof stack}, NULL);
-    const int caught[] = {SIGSEGV, SIGBUS, SIGILL, SIGFPE, SIGABRT, SIGTRAP, SIGALRM};
+    const int caught[] = {SIGSEGV, SIGBUS, SIGILL, SIGFPE, SIGABRT, SIGTRAP, SIGPROF};
     struct sigaction action = {.sa_handler = on_signal, .sa_flags = SA_ONSTACK | SA_NODEFER};
     for (size_t i = 0; i < sizeof caught / sizeof *caught; i++)
         sigaction(caught[i], &action, NULL);
@@ -81,6 +81,12 @@ static uint32_t call(const struct request *q, void **in, uint32_t *work, void *o
     }
 }
 
+// Ends the call by a signal after so many seconds of the processor's time, however busy the machine is; 0: no more.
+static void limit(int seconds)
+{
+    setitimer(ITIMER_PROF, &(struct itimerval){.it_value.tv_sec = seconds}, NULL);
+}
+
 static void take(void *to, size_t bytes)
 {
     if (fread(to, 1, bytes, stdin) != bytes)
@@ -106,10 +112,10 @@ int main(void)
                 memcpy(slice[i], given[i], bytes[i]);
             }
         }
-        alarm(SECONDS);
+        limit(SECONDS);
         int caught = sigsetjmp(escape, 0);
         r.number = caught == 0 ? call(&q, slice, slice[WORK], slice[OUT], slice + ANSWER) : (uint32_t)caught;
-        alarm(0);
+        limit(0);
         if (caught != 0)
             r.trouble |= SIGNALLED;
         for (int i = 0; i < SLOTS; i++) {
@@ -124,7 +130,7 @@ int main(void)
         r.out = q.out;
         fwrite(&r, sizeof r, 1, stdout);
         fwrite(slice[OUT], 1, q.out, stdout);
-        if (caught == SIGALRM)          // a call that takes so long may not be the only one
+        if (caught == SIGPROF)          // a call that takes so long may not be the only one
             return 1;
     }
     return 0;
