@@ -25,7 +25,7 @@ module _ (sheet : List ℕ) (bytes : Below 256 sheet) (work : ℕ) (passes : che
   found : column sheet k ≡ given (columnAt sheet k)
   found = column-there sheet k (check-passed sheet work passes .ready .sounds) there
 
-  body-bytes : Below 256 (columnAt sheet k .body)
+  pub body-bytes : Below 256 (columnAt sheet k .body)
   body-bytes = subst (Below 256) (sym (body-is sheet k there)) (below-take 256 (sizeAt sheet k) (drop (bodyOffset sheet k) sheet) (below-drop 256 (bodyOffset sheet k) sheet bytes))
 
   pub numbers-read : readColumn (columnAt sheet k) ≡ given (numbersAt sheet k)

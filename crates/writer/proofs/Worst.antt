@@ -1,4 +1,4 @@
--- What is written is at most the worst size, so an output of the worst size is enough. Assumes only the laws of the codes.
+-- What is written is at most the worst size, so an output of the worst size is enough. Assumes nothing.
 use Prim.Native.Nat.{ℕ, zero, suc, _+_, _*_, _≤_, _<_}
 use mathlib.Core.Path.{_≡_}
 use mathlib.Core.Bool.{true}
@@ -8,7 +8,6 @@ use lib.Dec.{leb, eqb}
 use lib.ListN.{length, getD, drop, length-append, length-take}
 use borrow.Author.Tests.{le-leb, leb-true, eqb-true}
 use Rattle.meaning.specs.Answer.{given, need, passed, inTurn}
-use Rattle.meaning.specs.Codes.{isCode, codeOf}
 use Rattle.meaning.specs.Limits.{numberLimit, mostColumns, mostNumbers, mostBytes, planBytes, rising, badPlan}
 use Rattle.meaning.specs.Lists.{all, sum, joined, largest}
 use Rattle.meaning.specs.Operations.{Order, listedBy, ordersHold, writeListed, writeSheet}
@@ -17,8 +16,8 @@ use Rattle.meaning.specs.Plan.{planOf, wellFormed, judgePlan, worstPlan}
 use Rattle.meaning.specs.Sheet.{Listed, bodyOf, entryBytes, sheetBytes, worstSheet, entrySize}
 use Rattle.meaning.proofs.Answers.{need-given}
 use Rattle.meaning.proofs.Bounds.{below-nil, below-take, below-drop}
-use Rattle.meaning.proofs.Lawful.{Lawful}
 use Rattle.meaning.proofs.Tests.{both-true}
+use Rattle.codes.proofs.Numbered.{laws}
 use Rattle.stages.proofs.Most.{most}
 use Rattle.table.proofs.InTurn.{each-passed}
 use Rattle.writer.specs.Orders.{blankListed, orderHolds, listJudged, listRises}
@@ -31,19 +30,19 @@ pub record Fine (l : Listed) : Type 0 where
   pub few : length (l .numbers) < numberLimit
 
 -- ---- the columns of orders that hold are fine where their plans are judged
-judged-long : (l : Listed) (u : Unit {0}) → listJudged l ≡ given u → length (l .plan) ≡ planBytes
+pub judged-long : (l : Listed) (u : Unit {0}) → listJudged l ≡ given u → length (l .plan) ≡ planBytes
 unfolding judgePlan wellFormed
 judged-long l u e =
     let (formed, rest) = need-given (wellFormed (l .plan)) badPlan _ u e in
     eqb-true (length (l .plan)) planBytes (both-true (eqb (length (l .plan)) planBytes) _ formed .0)
 
-listed-small : (m : ℕ) → 0 < m → (orders : List Order) (numbers : List ℕ) → Below m numbers → (k : ℕ) → Below m (getD (listedBy orders numbers) k blankListed .numbers)
+pub listed-small : (m : ℕ) → 0 < m → (orders : List Order) (numbers : List ℕ) → Below m numbers → (k : ℕ) → Below m (getD (listedBy orders numbers) k blankListed .numbers)
 unfolding listedBy
 listed-small m p [] numbers h k = below-nil m p
 listed-small m p (o ∷ os) numbers h zero = below-take m (o .count) numbers h
 listed-small m p (o ∷ os) numbers h (suc k) = listed-small m p os (drop (o .count) numbers) (below-drop m (o .count) numbers h) k
 
-listed-few : (orders : List Order) (numbers : List ℕ) → all orderHolds orders ≡ true → (k : ℕ) → length (getD (listedBy orders numbers) k blankListed .numbers) ≤ mostNumbers
+pub listed-few : (orders : List Order) (numbers : List ℕ) → all orderHolds orders ≡ true → (k : ℕ) → length (getD (listedBy orders numbers) k blankListed .numbers) ≤ mostNumbers
 unfolding listedBy all
 listed-few [] numbers h k = omega arith
 listed-few (o ∷ os) numbers h zero =
@@ -56,46 +55,45 @@ listed-few (o ∷ os) numbers h (suc k) = listed-few os (drop (o .count) numbers
 abbrev worstColumn : Listed → ℕ
 worstColumn l = entrySize + worstPlan (planOf (l .plan)) (length (l .numbers))
 
-module _ (laws : (c : ℕ) → isCode c ≡ true → Lawful (codeOf c)) where
-  columns-most : (ls : List Listed) → ((k : ℕ) → k < length ls → Fine (getD ls k blankListed)) → length (joined entryBytes ls) + length (joined bodyOf ls) ≤ sum (map worstColumn ls)
-  unfolding joined sum
-  columns-most [] fine = omega arith
-  columns-most (l ∷ ls) fine =
-      let f = fine 0 (omega arith) in
-      omega (
-        arith,
-        columns-most ls (λ (k : ℕ) (h : k < length ls). fine (suc k) (omega arith)),
-        length-append (entryBytes l) (joined entryBytes ls),
-        length-append (bodyOf l) (joined bodyOf ls),
-        entry-long l (f .planned),
-        most laws (planOf (l .plan)) (l .numbers) (f .small) (f .few),
-      )
+columns-most : (ls : List Listed) → ((k : ℕ) → k < length ls → Fine (getD ls k blankListed)) → length (joined entryBytes ls) + length (joined bodyOf ls) ≤ sum (map worstColumn ls)
+unfolding joined sum
+columns-most [] fine = omega arith
+columns-most (l ∷ ls) fine =
+    let f = fine 0 (omega arith) in
+    omega (
+      arith,
+      columns-most ls (λ (k : ℕ) (h : k < length ls). fine (suc k) (omega arith)),
+      length-append (entryBytes l) (joined entryBytes ls),
+      length-append (bodyOf l) (joined bodyOf ls),
+      entry-long l (f .planned),
+      most (λ c i. laws c) (planOf (l .plan)) (l .numbers) (f .small) (f .few),
+    )
 
-  pub sheet-most : (ls : List Listed) → ((k : ℕ) → k < length ls → Fine (getD ls k blankListed)) → length (sheetBytes ls) ≤ worstSheet ls
-  unfolding sheetBytes worstSheet
-  sheet-most ls fine = omega (arith, length-append (joined entryBytes ls) (joined bodyOf ls), columns-most ls fine)
+pub sheet-most : (ls : List Listed) → ((k : ℕ) → k < length ls → Fine (getD ls k blankListed)) → length (sheetBytes ls) ≤ worstSheet ls
+unfolding sheetBytes worstSheet
+sheet-most ls fine = omega (arith, length-append (joined entryBytes ls) (joined bodyOf ls), columns-most ls fine)
 
-  -- orders that hold, whose plans are judged and whose lists are of their kinds, are written where work and output are long enough
-  pub sheet-written : (orders : List Order) (numbers : List ℕ) (work room : ℕ) → Below numberLimit numbers → ordersHold orders numbers ≡ true
-      → inTurn listJudged 0 (listedBy orders numbers) ≡ passed → all listRises (listedBy orders numbers) ≡ true
-      → 7 * largest (map (λ (c : Listed). length (c .numbers)) (listedBy orders numbers)) ≤ work
-      → worstSheet (listedBy orders numbers) ≤ mostBytes → worstSheet (listedBy orders numbers) ≤ room
-      → (writeSheet orders numbers work room ≡ given (sheetBytes (listedBy orders numbers))) × (length (sheetBytes (listedBy orders numbers)) ≤ worstSheet (listedBy orders numbers))
-  unfolding ordersHold writeSheet writeListed
-  sheet-written orders numbers work room small held judged rise enough short fits =
-      let ls = listedBy orders numbers in
-      let few : all orderHolds orders ≡ true = both-true (all orderHolds orders) _ (both-true (leb (length orders) mostColumns) _ held .1) .0 in
-      let size : length (sheetBytes ls) ≤ worstSheet ls = sheet-most ls (λ (k : ℕ) (h : k < length ls).
-      let (u, e) = each-passed listJudged ls blankListed 0 k judged h in
-      record {
-        planned = judged-long (getD ls k blankListed) u e;
-        small = listed-small numberLimit (omega arith) orders numbers small k;
-        few = omega (arith, listed-few orders numbers few k);
-      }) in
-      (written ls work room held judged rise enough (omega arith) (omega arith), size)
-    where
-      written : (ls : List Listed) (work room : ℕ) → ordersHold orders numbers ≡ true → inTurn listJudged 0 ls ≡ passed → all listRises ls ≡ true
-          → 7 * largest (map (λ (c : Listed). length (c .numbers)) ls) ≤ work → length (sheetBytes ls) ≤ mostBytes → length (sheetBytes ls) ≤ room
-          → need (ordersHold orders numbers) 11 (writeListed ls work room) ≡ given (sheetBytes ls)
-      written ls work room held judged rise enough short fits =
-          rw (held, judged, rise, le-leb (7 * largest (map (λ (c : Listed). length (c .numbers)) ls)) work enough, le-leb (length (sheetBytes ls)) mostBytes short, le-leb (length (sheetBytes ls)) room fits)
+-- orders that hold, whose plans are judged and whose lists are of their kinds, are written where work and output are long enough
+pub sheet-written : (orders : List Order) (numbers : List ℕ) (work room : ℕ) → Below numberLimit numbers → ordersHold orders numbers ≡ true
+    → inTurn listJudged 0 (listedBy orders numbers) ≡ passed → all listRises (listedBy orders numbers) ≡ true
+    → 7 * largest (map (λ (c : Listed). length (c .numbers)) (listedBy orders numbers)) ≤ work
+    → worstSheet (listedBy orders numbers) ≤ mostBytes → worstSheet (listedBy orders numbers) ≤ room
+    → (writeSheet orders numbers work room ≡ given (sheetBytes (listedBy orders numbers))) × (length (sheetBytes (listedBy orders numbers)) ≤ worstSheet (listedBy orders numbers))
+unfolding ordersHold writeSheet writeListed
+sheet-written orders numbers work room small held judged rise enough short fits =
+    let ls = listedBy orders numbers in
+    let few : all orderHolds orders ≡ true = both-true (all orderHolds orders) _ (both-true (leb (length orders) mostColumns) _ held .1) .0 in
+    let size : length (sheetBytes ls) ≤ worstSheet ls = sheet-most ls (λ (k : ℕ) (h : k < length ls).
+    let (u, e) = each-passed listJudged ls blankListed 0 k judged h in
+    record {
+      planned = judged-long (getD ls k blankListed) u e;
+      small = listed-small numberLimit (omega arith) orders numbers small k;
+      few = omega (arith, listed-few orders numbers few k);
+    }) in
+    (written ls work room held judged rise enough (omega arith) (omega arith), size)
+  where
+    written : (ls : List Listed) (work room : ℕ) → ordersHold orders numbers ≡ true → inTurn listJudged 0 ls ≡ passed → all listRises ls ≡ true
+        → 7 * largest (map (λ (c : Listed). length (c .numbers)) ls) ≤ work → length (sheetBytes ls) ≤ mostBytes → length (sheetBytes ls) ≤ room
+        → need (ordersHold orders numbers) 11 (writeListed ls work room) ≡ given (sheetBytes ls)
+    written ls work room held judged rise enough short fits =
+        rw (held, judged, rise, le-leb (7 * largest (map (λ (c : Listed). length (c .numbers)) ls)) work enough, le-leb (length (sheetBytes ls)) mostBytes short, le-leb (length (sheetBytes ls)) room fits)

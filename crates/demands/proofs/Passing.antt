@@ -1,0 +1,139 @@
+-- A sheet that was written passes the check, and its lists are read back. Assumes nothing.
+use Prim.Native.Nat.{ℕ, zero, suc, _+_, _*_, _≤_, _<_}
+use mathlib.Core.Path.{_≡_, refl, sym, ap, ap₂, _∙_}
+use mathlib.Core.Bool.{true, _&&_}
+use mathlib.Core.List.{List, [], _∷_, _++_, map}
+use native.Mathlib.Omega.{arith}
+use lib.Dec.{leb, eqb}
+use lib.ListN.{length, getD, length-append}
+use borrow.Author.Tests.{le-leb, eq-eqb}
+use Rattle.meaning.specs.Answer.{Answer, given, list, passed, inTurn}
+use Rattle.meaning.specs.Limits.{numberLimit, mostColumns, mostNumbers, mostBytes, planBytes, rising}
+use Rattle.meaning.specs.Lists.{all, sum, joined, largest}
+use Rattle.meaning.specs.Operations.{check, numbersAt}
+use Rattle.meaning.specs.Places.{Below}
+use Rattle.meaning.specs.Plan.{planOf, passes, judgePlan}
+use Rattle.meaning.specs.Sheet.{Listed, ofKind, bodyOf, sheetBytes, Column, columnsOf, columnAt, isSheet, tableHolds, sound, readColumn, largestCount, tableSize}
+use Rattle.meaning.specs.Stages.{read, write}
+use Rattle.meaning.proofs.Tests.{true-both}
+use Rattle.codes.proofs.Numbered.{laws}
+use Rattle.stages.proofs.Forth.{forth-plan}
+use Rattle.stages.proofs.Most.{most, plan-worst}
+use Rattle.table.specs.Offsets.{blankColumn}
+use Rattle.table.specs.Rules.{entryHolds, planJudged}
+use Rattle.table.proofs.Sounds.{plan-passed, by-plans}
+use Rattle.writer.specs.Orders.{blankListed, listJudged}
+use Rattle.writer.proofs.Worst.{judged-long}
+use Rattle.sheet.proofs.Checks.{check-bodies}
+use Rattle.demands.specs.Own.{columnFor}
+use Rattle.demands.proofs.Columns.{Fits, written-columns, written-size}
+
+-- a column within the limits, of its kind, under a plan that is passed for it
+pub record Writable (l : Listed) : Type 0 where
+  pub kind : l .kind ≤ rising
+  pub judged : judgePlan (l .kind) (l .plan) ≡ given tt
+  pub risen : ofKind (l .kind) (l .numbers) ≡ true
+  pub small : Below numberLimit (l .numbers)
+  pub few : length (l .numbers) ≤ mostNumbers
+
+abbrev pub AllWritable : List Listed → Type 0
+AllWritable ls = (k : ℕ) → k < length ls → Writable (getD ls k blankListed)
+
+-- ---- one column
+module _ (l : Listed) (w : Writable l) where
+  body-short : length (bodyOf l) ≤ 72 * mostNumbers + 56
+  body-short =
+      omega (arith, most (λ c i. laws c) (planOf (l .plan)) (l .numbers) (w .small) (omega (arith, w .few)), plan-worst (l .plan) (length (l .numbers)), w .few)
+
+  pub fits : Fits l
+  fits = record { planned = judged-long l tt (w .judged); few = omega (arith, w .few); short = omega (arith, body-short) }
+
+  pub column-back : readColumn (columnFor l) ≡ given (l .numbers)
+  unfolding readColumn
+  column-back =
+      rw (forth-plan (λ c i. laws c) (l .plan) (l .kind) (l .numbers) (plan-passed (l .kind) (l .plan) tt (w .judged) .1) (w .risen) (w .small) (w .few), w .risen)
+
+-- ---- of columns that were made of others
+module _ {A B : Type 0} (f : A → B) where
+  getD-map : (xs : List A) (a : A) (b : B) (k : ℕ) → k < length xs → getD (map f xs) k b ≡ f (getD xs k a)
+  getD-map [] a b k h = absurd (omega arith)
+  getD-map (x ∷ xs) a b zero h = refl
+  getD-map (x ∷ xs) a b (suc k) h = getD-map xs a b k (omega arith)
+
+pub all-turn : {A B C : Type 0} (f : A → Answer B) (g : C → A) (j : ℕ) (d : C) (xs : List C) → ((k : ℕ) → k < length xs → (b : B) × (f (g (getD xs k d)) ≡ given b)) → inTurn f j (map g xs) ≡ passed
+all-turn f g j d [] h = refl
+all-turn f g j d (x ∷ xs) h =
+    let (b, e) = h 0 (omega arith) in
+    rw e (all-turn f g (suc j) d xs (λ (k : ℕ) (l : k < length xs). h (suc k) (omega arith)))
+
+entries-hold : (ls : List Listed) → AllWritable ls → all entryHolds (map columnFor ls) ≡ true
+unfolding all
+entries-hold [] w = refl
+entries-hold (l ∷ ls) w =
+    let v = w 0 (omega arith) in
+    true-both (entryHolds (columnFor l)) _
+    (true-both (leb (l .kind) rising) _ (le-leb (l .kind) rising (v .kind)) (le-leb (length (l .numbers)) mostNumbers (v .few)))
+    (entries-hold ls (λ (k : ℕ) (h : k < length ls). w (suc k) (omega arith)))
+
+sizes : (ls : List Listed) → sum (map (λ (c : Column). c .size) (map columnFor ls)) ≡ length (joined bodyOf ls)
+unfolding sum joined
+sizes [] = refl
+sizes (l ∷ ls) = omega (arith, sizes ls, length-append (bodyOf l) (joined bodyOf ls))
+
+counts : (ls : List Listed) → map (λ (c : Column). c .count) (map columnFor ls) ≡ map (λ (l : Listed). length (l .numbers)) ls
+counts [] = refl
+counts (l ∷ ls) = ap (λ (t : List ℕ). length (l .numbers) ∷ t) (counts ls)
+
+-- ---- the sheet
+module _ (ls : List Listed) (writable : AllWritable ls) where
+  columns : columnsOf (sheetBytes ls) ≡ map columnFor ls
+  columns = written-columns ls (λ k h. fits (getD ls k blankListed) (writable k h))
+
+  size : length (sheetBytes ls) ≡ tableSize (sheetBytes ls) + length (joined bodyOf ls)
+  size = written-size ls (λ k h. fits (getD ls k blankListed) (writable k h))
+
+  -- the largest count is that of the largest list
+  pub written-largest : largestCount (sheetBytes ls) ≡ largest (map (λ (l : Listed). length (l .numbers)) ls)
+  unfolding largestCount
+  written-largest = ap (λ (cs : List Column). largest (map (λ (c : Column). c .count) cs)) columns ∙ ap largest (counts ls)
+
+  -- column k holds what it was written from, and its list is read back
+  module _ (k : ℕ) (h : k < length ls) where
+    pub written-column : columnAt (sheetBytes ls) k ≡ columnFor (getD ls k blankListed)
+    written-column = ap (λ (cs : List Column). getD cs k blankColumn) columns ∙ getD-map columnFor ls blankListed blankColumn k h
+
+    pub list-back : numbersAt (sheetBytes ls) k ≡ getD ls k blankListed .numbers
+    unfolding numbersAt
+    list-back = ap (λ (c : Column). list (readColumn c)) written-column ∙ ap list (column-back (getD ls k blankListed) (writable k h))
+
+  module _ (few : length ls ≤ mostColumns) (short : length (sheetBytes ls) ≤ mostBytes) where
+    edition : eqb (getD (sheetBytes ls) 0 0) 1 && leb (getD (sheetBytes ls) 1 0) mostColumns ≡ true
+    unfolding sheetBytes
+    edition = le-leb (length ls) mostColumns few
+
+    a-sheet : isSheet (sheetBytes ls) ≡ true
+    unfolding isSheet
+    a-sheet = rw (le-leb 2 (length (sheetBytes ls)) (omega (arith, size)), le-leb (length (sheetBytes ls)) mostBytes short) edition
+
+    a-table : tableHolds (sheetBytes ls) ≡ true
+    unfolding tableHolds
+    a-table =
+        let filled : tableSize (sheetBytes ls) + sum (map (λ (c : Column). c .size) (columnsOf (sheetBytes ls))) ≡ length (sheetBytes ls) =
+        ap (λ (cs : List Column). tableSize (sheetBytes ls) + sum (map (λ (c : Column). c .size) cs)) columns
+        ∙ ap (λ (j : ℕ). tableSize (sheetBytes ls) + j) (sizes ls)
+        ∙ sym size in
+        true-both (leb (tableSize (sheetBytes ls)) (length (sheetBytes ls))) _ (le-leb (tableSize (sheetBytes ls)) (length (sheetBytes ls)) (omega (arith, size)))
+        (true-both (all entryHolds (columnsOf (sheetBytes ls))) _ (ap (all entryHolds) columns ∙ entries-hold ls writable)
+        (eq-eqb (tableSize (sheetBytes ls) + sum (map (λ (c : Column). c .size) (columnsOf (sheetBytes ls)))) (length (sheetBytes ls)) filled))
+
+    written-sound : sound (sheetBytes ls) ≡ passed
+    written-sound =
+        by-plans (sheetBytes ls) a-sheet a-table
+        ∙ ap (inTurn planJudged 0) columns
+        ∙ all-turn planJudged columnFor 0 blankListed ls (λ k h. (tt, writable k h .judged))
+
+    pub written-passes : (work : ℕ) → 8 * largest (map (λ (l : Listed). length (l .numbers)) ls) ≤ work → check (sheetBytes ls) work ≡ passed
+    written-passes work h =
+        check-bodies (sheetBytes ls) work written-sound (omega (arith, written-largest))
+        ∙ ap (inTurn readColumn 0) columns
+        ∙ all-turn readColumn columnFor 0 blankListed ls (λ k l. (getD ls k blankListed .numbers, column-back (getD ls k blankListed) (writable k l)))
