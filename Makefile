@@ -1,5 +1,6 @@
-# `make` shows the board and the listing of a sample sheet, `make test` is the gate.
-.PHONY: all test
+# `make` shows the board and the listing of a sample sheet, `make test` is the gate, `make lib` writes the C library
+# (target/staticlib/libcapi.a for include/pelluvion.h), `make bench` counts what it costs beside plain C.
+.PHONY: all test lib bench
 
 all:
 	rt check board listing
@@ -8,3 +9,9 @@ all:
 
 test:
 	bash .ci/run
+
+lib:
+	rt staticlib capi
+
+bench: lib
+	python3 bench/run.py target/staticlib/libcapi.a

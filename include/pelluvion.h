@@ -4,7 +4,9 @@
    the last pointers and is 0 on refusal, but for the column at fault of check and board.  A place counts
    numbers, an offset counts bytes; every slice is a pointer and how many elements it has.  A refused call
    changes no output; an accepted write changes `size` bytes of it, an accepted read `count` numbers.  What
-   the work slice holds after a call is not said.  No function keeps a pointer, allocates or has a state.
+   the work slice holds after a call is not said.  No function keeps a pointer, allocates or has a state; a
+   call takes less than 32 KB of stack.  No pointer may be null, not even to a slice of length 0, and what a
+   call may change (work, output and answers) must not overlap anything else that it is lent.
 
     1  sheet below 2 or above 65,536 bytes, edition not 1, over 16 columns
     2  table cut short, kind above 1, count above 1,024, body lengths not filling the rest
@@ -60,7 +62,7 @@ uint32_t pelluvion_read(const uint8_t *sheet, size_t sheet_len, size_t column, u
 /* Looks up the number at a place of a column. */
 uint32_t pelluvion_lookup(const uint8_t *sheet, size_t sheet_len, size_t column, size_t place, uint32_t *number);
 
-/* Where a column's body stands in the sheet. */
+/* Where a column's body stands in the sheet: `length` bytes from `offset` on. */
 uint32_t pelluvion_fetch(const uint8_t *sheet, size_t sheet_len, size_t column, size_t *offset, size_t *length);
 
 /* Counts the endings of a board: column 0 job numbers, column 1 endings.  Checks the sheet first, and names

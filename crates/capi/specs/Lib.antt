@@ -1,0 +1,2 @@
+-- What a C caller is told, in the meaning's words.
+pub mod Told
