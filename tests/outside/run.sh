@@ -7,3 +7,4 @@ cd "$(dirname "$0")"
 python3 machine.py
 python3 compare.py "$archive" "${2:-200000}"
 python3 interop.py "$archive"
+python3 readme.py "$archive"
