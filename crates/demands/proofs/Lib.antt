@@ -5,4 +5,6 @@ pub mod Accepted
 pub mod Kept
 pub mod Rewritten
 pub mod Outputs
+pub mod Faults
+pub mod Refusals
 pub mod Answered

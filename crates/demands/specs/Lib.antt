@@ -1,2 +1,3 @@
 -- What the demands speak of.
 pub mod Own
+pub mod Refusals

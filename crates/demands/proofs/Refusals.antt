@@ -1,0 +1,153 @@
+-- Every refusal is one of document 01's numbers for that operation, so that number 0 says accepted and nothing else. Assumes nothing.
+use Prim.Native.Nat.{ℕ, suc, _*_}
+use mathlib.Core.Path.{_≡_, refl, sym, ap, _∙_, subst}
+use mathlib.Core.Bool.{Bool, true, false, _&&_, _||_}
+use mathlib.Core.List.{List, [], _∷_, map}
+use native.Mathlib.Omega.{arith}
+use lib.Dec.{leb, ltb, eqb}
+use lib.ListN.{length}
+use borrow.Author.Tests.{eqb-true, leb-true}
+use Rattle.meaning.specs.Answer.{Answer, given, refused, bind, need, number, Verdict, passed, blamed, _then_, ask, inTurn, after}
+use Rattle.meaning.specs.Limits.{mostColumns, mostNumbers, mostBytes, planBytes, rising, fault, noSheet, badTable, badPlan, unfitPlan, noColumn, noPlace, noRoom, shortWork, falls, badOrders, badBoard}
+use Rattle.meaning.specs.Lists.{all, largest}
+use Rattle.meaning.specs.Operations.{Order, listedBy, ordersHold, writeListed, writeSheet, ordersOf, writeApart, check, column, readSheet, lookSheet, fetch, openReader, numbersAt, boardHolds, boardVerdict, tallied, countBoard}
+use Rattle.meaning.specs.Plan.{planOf, wellFormed, passes, judgePlan, judge, worstSize}
+use Rattle.meaning.specs.Sheet.{Listed, ofKind, sheetBytes, Column, columnsOf, columnAt, isSheet, tableHolds, sound, readColumn, largestCount}
+use Rattle.meaning.specs.Stages.{look}
+use Rattle.meaning.specs.declared.Tally.{Tally}
+use Rattle.meaning.proofs.Answers.{Faulty}
+use Rattle.meaning.proofs.Tests.{both-true, by-test}
+use Rattle.table.proofs.InTurn.{turn-passed, turn-refused}
+use Rattle.writer.specs.Orders.{listJudged, listRises}
+use Rattle.demands.specs.Refusals.{among, RefusesBy, BlamesBy}
+use Rattle.demands.proofs.Faults.{column-faulty, look-faulty}
+
+-- ---- what may refuse, part by part
+module _ (es : List ℕ) where
+  by-need : {A : Type 0} (b : Bool) (e : ℕ) (m : Answer A) → among e es ≡ true → RefusesBy es m → RefusesBy es (need b e m)
+  by-need true e m i h = h
+  by-need false e m i h = i
+
+  by-bind : {A B : Type 0} (m : Answer A) (k : A → Answer B) → RefusesBy es m → ((a : A) → RefusesBy es (k a)) → RefusesBy es (bind m k)
+  by-bind (given a) k h f = f a
+  by-bind (refused e) k h f = h
+
+  by-fault : {A : Type 0} (m : Answer A) → among fault es ≡ true → Faulty m → RefusesBy es m
+  by-fault (given a) i h = tt
+  by-fault (refused e) i h = ap (λ (k : ℕ). among k es) h ∙ i
+
+  by-after : {A : Type 0} (v : Verdict) (m : Answer A) → BlamesBy es v → RefusesBy es m → RefusesBy es (after v m)
+  by-after passed m h k = k
+  by-after (blamed e j) m h k = h
+
+  by-then : (v w : Verdict) → BlamesBy es v → BlamesBy es w → BlamesBy es (v then w)
+  by-then passed w h k = k
+  by-then (blamed e j) w h k = h
+
+  by-ask : (b : Bool) (e : ℕ) → among e es ≡ true → BlamesBy es (ask b e)
+  by-ask true e i = tt
+  by-ask false e i = i
+
+  by-turn : {A B : Type 0} (f : A → Answer B) → ((a : A) → RefusesBy es (f a)) → (k : ℕ) (xs : List A) → BlamesBy es (inTurn f k xs)
+  by-turn f h k [] = tt
+  by-turn {A} {B} f h k (x ∷ xs) = go (by-turn f h (suc k) xs) (f x) refl
+    where
+      go : BlamesBy es (inTurn f (suc k) xs) → (m : Answer B) → f x ≡ m → BlamesBy es (inTurn f k (x ∷ xs))
+      go rest (given b) e = rw (turn-passed f k x xs b e) rest
+      go rest (refused z) e = rw (turn-refused f k x xs z e) (subst (RefusesBy es) e (h x))
+
+  plan-by : among badPlan es ≡ true → among unfitPlan es ≡ true → (kind : ℕ) (plan : List ℕ) → RefusesBy es (judgePlan kind plan)
+  unfolding judgePlan
+  plan-by i j kind plan = by-need (wellFormed plan) badPlan _ i (by-need (passes kind (planOf plan)) unfitPlan _ j tt)
+
+  module _ (one : among noSheet es ≡ true) (two : among badTable es ≡ true) (three : among badPlan es ≡ true) (four : among unfitPlan es ≡ true) (sheet : List ℕ) where
+    sound-by : BlamesBy es (sound sheet)
+    unfolding sound
+    sound-by =
+        by-then (ask (isSheet sheet) noSheet) _ (by-ask (isSheet sheet) noSheet one)
+        (by-then (ask (tableHolds sheet) badTable) _ (by-ask (tableHolds sheet) badTable two)
+        (by-turn (λ (c : Column). judgePlan (c .kind) (c .plan)) (λ c. plan-by three four (c .kind) (c .plan)) 0 (columnsOf sheet)))
+
+    column-by : among noColumn es ≡ true → (k : ℕ) → RefusesBy es (column sheet k)
+    unfolding column
+    column-by five k = by-after (sound sheet) _ sound-by (by-need (ltb k (length (columnsOf sheet))) noColumn _ five tt)
+
+    check-by : among shortWork es ≡ true → among fault es ≡ true → (work : ℕ) → BlamesBy es (check sheet work)
+    unfolding check
+    check-by eight nine work =
+        by-then (sound sheet) _ sound-by
+        (by-then (ask (leb (8 * largestCount sheet) work) shortWork) _ (by-ask (leb (8 * largestCount sheet) work) shortWork eight)
+        (by-turn readColumn (λ c. by-fault (readColumn c) nine (column-faulty c)) 0 (columnsOf sheet)))
+
+-- ---- the operations
+pub judge-refusals : (kind : ℕ) (plan : List ℕ) → RefusesBy (3 ∷ 4 ∷ 11 ∷ []) (judge kind plan)
+unfolding judge among
+judge-refusals kind plan = by-need _ (leb kind rising) badOrders _ refl (plan-by _ refl refl kind plan)
+
+pub worst-refusals : (plan : List ℕ) (n : ℕ) → RefusesBy (3 ∷ 11 ∷ []) (worstSize plan n)
+unfolding worstSize among
+worst-refusals plan n = by-need _ (wellFormed plan) badPlan _ refl (by-need _ (leb n mostNumbers) badOrders _ refl tt)
+
+abbrev writing : List ℕ
+writing = 3 ∷ 4 ∷ 7 ∷ 8 ∷ 10 ∷ 11 ∷ []
+
+pub write-refusals : (orders : List Order) (numbers : List ℕ) (work room : ℕ) → RefusesBy (3 ∷ 4 ∷ 7 ∷ 8 ∷ 10 ∷ 11 ∷ []) (writeSheet orders numbers work room)
+unfolding writeSheet writeListed among
+write-refusals orders numbers work room =
+    let ls = listedBy orders numbers in
+    by-need writing (ordersHold orders numbers) badOrders _ refl
+    (by-after writing (inTurn listJudged 0 ls) _ (by-turn writing listJudged (λ l. plan-by writing refl refl (l .kind) (l .plan)) 0 ls)
+    (by-need writing (all listRises ls) falls _ refl
+    (by-need writing (leb (7 * largest (map (λ (c : Listed). length (c .numbers)) ls)) work) shortWork _ refl
+    (by-need writing (leb (length (sheetBytes ls)) mostBytes && leb (length (sheetBytes ls)) room) noRoom _ refl tt))))
+
+pub apart-refusals : (kinds plans counts numbers : List ℕ) (work room : ℕ) → RefusesBy (3 ∷ 4 ∷ 7 ∷ 8 ∷ 10 ∷ 11 ∷ []) (writeApart kinds plans counts numbers work room)
+unfolding writeApart among
+apart-refusals kinds plans counts numbers work room =
+    by-need writing (eqb (length plans) (planBytes * length kinds) && eqb (length counts) (length kinds)) badOrders _ refl (write-refusals (ordersOf kinds plans counts) numbers work room)
+
+pub check-refusals : (sheet : List ℕ) (work : ℕ) → BlamesBy (1 ∷ 2 ∷ 3 ∷ 4 ∷ 8 ∷ 9 ∷ []) (check sheet work)
+unfolding among
+check-refusals sheet work = check-by _ refl refl refl refl sheet refl refl work
+
+pub read-refusals : (sheet : List ℕ) (k work room : ℕ) → RefusesBy (1 ∷ 2 ∷ 3 ∷ 4 ∷ 5 ∷ 7 ∷ 8 ∷ 9 ∷ []) (readSheet sheet k work room)
+unfolding readSheet among
+read-refusals sheet k work room =
+    by-bind _ (column sheet k) _ (column-by _ refl refl refl refl sheet refl k) (λ c.
+    by-need _ (leb (7 * c .count) work) shortWork _ refl (by-need _ (leb (c .count) room) noRoom _ refl (by-fault _ (readColumn c) refl (column-faulty c))))
+
+pub lookup-refusals : (sheet : List ℕ) (k place : ℕ) → RefusesBy (1 ∷ 2 ∷ 3 ∷ 4 ∷ 5 ∷ 6 ∷ 9 ∷ []) (lookSheet sheet k place)
+unfolding lookSheet among
+lookup-refusals sheet k place =
+    by-bind _ (column sheet k) _ (column-by _ refl refl refl refl sheet refl k) (λ c.
+    by-need _ (ltb place (c .count)) noPlace _ refl (by-fault _ (look (planOf (c .plan)) (c .body) (c .count) place) refl (look-faulty (planOf (c .plan)) (c .body) (c .count) place)))
+
+pub fetch-refusals : (sheet : List ℕ) (k : ℕ) → RefusesBy (1 ∷ 2 ∷ 3 ∷ 4 ∷ 5 ∷ []) (fetch sheet k)
+unfolding fetch among
+fetch-refusals sheet k = by-bind _ (column sheet k) _ (column-by _ refl refl refl refl sheet refl k) (λ c. tt)
+
+pub open-refusals : (sheet : List ℕ) (k : ℕ) → RefusesBy (1 ∷ 2 ∷ 3 ∷ 4 ∷ 5 ∷ []) (openReader sheet k)
+unfolding openReader among
+open-refusals sheet k = by-bind _ (column sheet k) _ (column-by _ refl refl refl refl sheet refl k) (λ c. tt)
+
+tallied-by : (es : List ℕ) (v : Verdict) (endings : List ℕ) → BlamesBy es v → BlamesBy es (tallied v endings .0)
+tallied-by es passed endings h = tt
+tallied-by es (blamed e k) endings h = h
+
+pub board-refusals : (sheet : List ℕ) (work : ℕ) → BlamesBy (1 ∷ 2 ∷ 3 ∷ 4 ∷ 8 ∷ 9 ∷ 12 ∷ []) (countBoard sheet work .0)
+unfolding countBoard boardVerdict among
+board-refusals sheet work =
+    tallied-by _ (boardVerdict sheet work) (numbersAt sheet 1)
+    (by-then _ (check sheet work) _ (check-by _ refl refl refl refl sheet refl refl work) (by-ask _ (boardHolds sheet) badBoard refl))
+
+-- ---- number 0 says accepted
+among-some : (e : ℕ) (es : List ℕ) → all (leb 1) es ≡ true → among e es ≡ true → e ≡ 0 → ⊥
+unfolding among all
+among-some e [] h i z = let y : _≡_ {A = ℕ} 0 1 = cc in omega arith
+among-some e (x ∷ es) h i z =
+    let (a, b) = both-true (leb 1 x) (all (leb 1) es) h in
+    by-test (eqb e x) (λ t. let s : e ≡ x = eqb-true e x t in let l = leb-true 1 x a in omega arith) (λ f. among-some e es b (sym (ap (λ (q : Bool). q || among e es) f) ∙ i) z)
+
+pub zero-accepts : {A : Type 0} (es : List ℕ) (m : Answer A) → all (leb 1) es ≡ true → RefusesBy es m → number m ≡ 0 → (a : A) × (m ≡ given a)
+zero-accepts es (given a) h i z = (a, refl)
+zero-accepts es (refused e) h i z = absurd (among-some e es h i z)
