@@ -1,0 +1,2 @@
+-- What a reader is to its callers.
+pub mod Steps
