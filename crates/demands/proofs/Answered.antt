@@ -26,10 +26,10 @@ use Rattle.demands.proofs.Accepted.{NeverStuck, never-stuck}
 use Rattle.demands.proofs.Rewritten.{same-apart}
 
 -- an answer and an output that are to be those of a written list of bytes
-abbrev Written : Answer (List ℕ) → Sized → List ℕ → List ℕ → Type 0
+abbrev pub Written : Answer (List ℕ) → Sized → List ℕ → List ℕ → Type 0
 Written a r out out′ = (sizedSays r ≡ amount a) × (out′ ≡ filled a out)
 
-wrote : (a : Answer (List ℕ)) (bytes : List ℕ) (r : Sized) (out out′ : List ℕ) → a ≡ given bytes → Written a r out out′
+pub wrote : (a : Answer (List ℕ)) (bytes : List ℕ) (r : Sized) (out out′ : List ℕ) → a ≡ given bytes → Written a r out out′
     → (sizedSays r ≡ given (length bytes)) × (out′ ≡ bytes ++ drop (length bytes) out)
 wrote a bytes r out out′ e w = (w .0 ∙ ap amount e, w .1 ∙ ap (λ (x : Answer (List ℕ)). filled x out) e)
 

@@ -8,3 +8,4 @@ pub mod Outputs
 pub mod Faults
 pub mod Refusals
 pub mod Answered
+pub mod Fronts
