@@ -14,6 +14,7 @@ pub mod Laws
 pub mod Windows
 pub mod Seen
 pub mod Forms
+pub mod Looks
 pub mod Turns
 -- writing
 pub mod Pushing

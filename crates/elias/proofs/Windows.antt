@@ -4,7 +4,7 @@ use Prim.Native.Nat.{ℕ, _+_, _-_, _*_, _/_, _%_, _^_, _≤_, _<_}
 use native.Mathlib.Nat.{zero-add, add-zero, one-mul, mul-mod-left, mod-eq-of-lt}
 use native.Mathlib.Omega.{arith}
 use mathlib.Core.List.{List, [], _∷_, _++_, append-assoc, append-nil}
-use lib.ListN.{length, getD, take, drop}
+use lib.ListN.{length, getD, take, drop, length-drop}
 use lib.Pow.{pow-pos, pow-lt, mod-pow-add, shl-shr, shr-shr, shr-mod}
 use lib.Seq.{take-take, take-append-le, drop-drop}
 use Rattle.meaning.specs.Bits.{bitsHigh, bitsOf, numberHigh}
@@ -63,16 +63,23 @@ shl-bits i m k w v h =
     ∙ high-append m k (w % 2 ^ (i + m)) v h
     ∙ ap (λ (l : List ℕ). l ++ bitsHigh k v) (high-mod m i w)
 
+-- shifted, the bits from the k-th on, and zeros
+pub shl-drop : (n m k w : ℕ) → n ≡ m + k → bitsHigh n ((w * 2 ^ k) % 2 ^ n) ≡ drop k (bitsHigh n w) ++ bitsHigh k 0
+shl-drop n m k w en =
+    let shifted : bitsHigh (m + k) ((w * 2 ^ k) % 2 ^ (m + k)) ≡ bitsHigh m w ++ bitsHigh k 0 = simp (zero-add, add-zero) at (shl-bits 0 m k w 0 (pow-pos k)) in
+    let ek : k + m ≡ n = omega arith in
+    ap (λ (j : ℕ). bitsHigh j ((w * 2 ^ k) % 2 ^ j)) en
+    ∙ shifted
+    ∙ ap (λ (l : List ℕ). l ++ bitsHigh k 0) (sym (high-drop k m w) ∙ ap (λ (j : ℕ). drop k (bitsHigh j w)) ek)
+
 -- a list's bits from the k-th on, where a number has n of them
 peek-at : (n m k w : ℕ) (l : List ℕ) → n ≡ m + k → 57 ≤ m → bitsHigh n w ≡ padded n l → take 57 (bitsHigh n ((w * 2 ^ k) % 2 ^ n)) ≡ padded 57 (drop k l)
 peek-at n m k w l en h e =
-    let shifted : bitsHigh (m + k) ((w * 2 ^ k) % 2 ^ (m + k)) ≡ bitsHigh m w ++ bitsHigh k 0 = simp (zero-add, add-zero) at (shl-bits 0 m k w 0 (pow-pos k)) in
     let ek : k + m ≡ n = omega arith in
     let e₅₇ : m ≡ 57 + (m - 57) = omega arith in
-    let after : bitsHigh m w ≡ padded m (drop k l) = sym (high-drop k m w) ∙ ap (λ (j : ℕ). drop k (bitsHigh j w)) ek ∙ ap (drop k) e ∙ ap (λ (j : ℕ). drop k (padded j l)) (sym ek) ∙ padded-drop k m l in
-    ap (λ (j : ℕ). take 57 (bitsHigh j ((w * 2 ^ k) % 2 ^ j))) en
-    ∙ ap (take 57) shifted
-    ∙ take-append-le 57 (bitsHigh m w) (bitsHigh k 0) (omega (arith, high-length m w))
+    let after : drop k (bitsHigh n w) ≡ padded m (drop k l) = ap (drop k) e ∙ ap (λ (j : ℕ). drop k (padded j l)) (sym ek) ∙ padded-drop k m l in
+    ap (take 57) (shl-drop n m k w en)
+    ∙ take-append-le 57 (drop k (bitsHigh n w)) (bitsHigh k 0) (omega (arith, length-drop k (bitsHigh n w), high-length n w))
     ∙ ap (take 57) (after ∙ ap (λ (j : ℕ). padded j (drop k l)) e₅₇)
     ∙ padded-take 57 (m - 57) (drop k l)
 

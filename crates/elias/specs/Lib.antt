@@ -2,3 +2,4 @@
 pub mod Padded
 pub mod Says
 pub mod Carry
+pub mod Reached

@@ -1,6 +1,6 @@
 // Bits of a body, taken through a window of eight bytes.
 ghost use mathlib.Core.Path.{_≡_};
-ghost use Prim.Native.Nat.{_+_, _*_, _<_, _≤_};
+ghost use Prim.Native.Nat.{_+_, _*_, _/_, _<_, _≤_};
 ghost use mathlib.Core.List.{[], _∷_};
 ghost use lib.ListN.{length, getD, take, drop};
 ghost use Rattle.meaning.specs.Bits.{bitsHigh, bitsOf, numberHigh};
@@ -26,22 +26,30 @@ fn eight(a: u8, b: u8, c: u8, d: u8, e: u8, f: u8, g: u8, h: u8) -> u64
     high * 4294967296 + low
 }
 
+// The eight bytes from an offset on, where they are there.
+fn eight_inside(body: &[u8], at: usize) -> u64
+    requires { ⌜ at + 8 ≤ length (now body) ⌝ }
+    ensures { λ r. ⌜ bitsHigh 64 r ≡ padded 64 (drop (8 * at) (bitsOf (now (body .entry)))) ⌝ }
+{
+    eight(
+        body[at],
+        body[at + 1],
+        body[at + 2],
+        body[at + 3],
+        body[at + 4],
+        body[at + 5],
+        body[at + 6],
+        body[at + 7],
+    )
+}
+
 // The eight bytes from an offset on; past the end 0.
 fn window(body: &[u8], at: usize) -> u64
     requires { ⌜ at ≤ mostBytes ⌝ }
     ensures { λ r. ⌜ bitsHigh 64 r ≡ padded 64 (drop (8 * at) (bitsOf (now (body .entry)))) ⌝ }
 {
     if at + 8 <= body.len() {
-        return eight(
-            body[at],
-            body[at + 1],
-            body[at + 2],
-            body[at + 3],
-            body[at + 4],
-            body[at + 5],
-            body[at + 6],
-            body[at + 7],
-        );
+        return eight_inside(body, at);
     }
     eight(
         byte_at(body, at),
@@ -61,6 +69,14 @@ pub fn peek(body: &[u8], p: usize) -> u64
     ensures { λ r. ⌜ take 57 (bitsHigh 64 r) ≡ padded 57 (drop p (bitsOf (now (body .entry)))) ⌝ }
 {
     window(body, p / 8) << (p % 8)
+}
+
+// The same where eight bytes are there: no test of the body's end.
+pub fn peek_inside(body: &[u8], p: usize) -> u64
+    requires { ⌜ p / 8 + 8 ≤ length (now body) ⌝ }
+    ensures { λ r. ⌜ take 57 (bitsHigh 64 r) ≡ padded 57 (drop p (bitsOf (now (body .entry)))) ⌝ }
+{
+    eight_inside(body, p / 8) << (p % 8)
 }
 
 // The n highest bits of a number.

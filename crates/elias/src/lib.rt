@@ -1,8 +1,10 @@
 // Elias gamma and delta, codes 5 and 6: codewords packed highest bit of each byte first, spare bits of the last byte 0.
 mod input;
+mod inside;
 mod output;
 mod word;
 
+use crate::inside::words_inside;
 use crate::output::Pending;
 use crate::output::finish;
 use crate::output::push_word;
@@ -57,8 +59,9 @@ fn read(body: &[u8], n: usize, work: &mut [u32], from: Place, form: Form) -> Rea
     ensures { λ r. ⌜ Got (readCode (codeWith form) (now (body .entry)) n) (from .number) (now (work .entry)) (now (work .exit)) r ⌝ }
 {
     let first = from.number;
-    let mut p: usize = 0;
-    let mut i: usize = 0;
+    let reached = words_inside(body, n, work, first, form);
+    let mut p = reached.bit;
+    let mut i = reached.numbers;
     while i < n {
         let w = word_at(body, p, form);
         let Codeword::Value(v, size) = w else {

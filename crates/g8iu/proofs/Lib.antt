@@ -11,3 +11,5 @@ pub mod Ends
 pub mod Takes
 pub mod Eights
 pub mod Readings
+pub mod Plains
+pub mod PlainReads

@@ -25,6 +25,7 @@ use Rattle.meaning.proofs.Stores.{take-sets, getD-sets, part-same, part-sets}
 use Rattle.meaning.proofs.Tests.{by-order}
 use Rattle.fields.proofs.Fields.{held}
 use Rattle.g8iu.specs.Blocks.{blockAt, Says, BlockIs}
+use Rattle.g8iu.specs.Plain.{roomAfter, ReadTo}
 use Rattle.g8iu.specs.declared.taking.Block.{Block}
 use Rattle.g8iu.specs.declared.taking.Block.the-variants.{Taken, Refused}
 use Rattle.g8iu.proofs.Controls.{control-is}
@@ -73,11 +74,7 @@ unit-next body left p xs zeros numbers count l m k e q =
     let t : take count numbers ≡ xs = rw (k, e) (part-sets xs zeros 0 (omega arith)) in
     record { told = rw t (sym q); few = omega arith }
 
--- ---- the room that a block of the numbers `before` left; none at the start
-abbrev pub roomAfter : List ℕ → ℕ
-roomAfter [] = 0
-roomAfter (y ∷ ys) = 8 - length (fields (y ∷ ys))
-
+-- ---- the room that the block before left
 -- a block may follow where its first number is longer than that
 joins-room : (before xs : List ℕ) → joinsG8IU before xs ≡ ltb (roomAfter before) (byteLength (getD xs 0 0))
 unfolding joinsG8IU fits
@@ -94,23 +91,16 @@ room-is [] h = absurd (omega arith)
 room-is (x ∷ xs) h = refl
 
 -- the first number that was stored
-first-stored : (xs w : List ℕ) (a : ℕ) → 0 < length xs → a < length w → getD (sets w a xs) a 0 ≡ getD xs 0 0
+pub first-stored : (xs w : List ℕ) (a : ℕ) → 0 < length xs → a < length w → getD (sets w a xs) a 0 ≡ getD xs 0 0
 first-stored [] w a h l = absurd (omega arith)
 first-stored (x ∷ xs) w a h l = getD-sets xs (set w a x) a (suc a) 0 (omega arith) ∙ getD-set-same w a x 0 l
 
--- i numbers have been read, the next block is at an offset, and the block before left this room
-pub record RoomSo (body : List ℕ) (n : ℕ) (work₀ : List ℕ) (first : ℕ) (work : List ℕ) (i at room : ℕ) : Type 0 where
-  pub before : List ℕ
-  pub so : ReadSo (unitG8IU body) joinsG8IU (toLast body) n (atByte 0) work₀ first work i before (atByte at)
-  pub inside : at ≤ length body
-  pub left : room ≡ roomAfter before
-
-pub room-start : (body : List ℕ) (n : ℕ) (work₀ : List ℕ) (first : ℕ) → RoomSo body n work₀ first work₀ 0 0 0
+pub room-start : (body : List ℕ) (n : ℕ) (work₀ : List ℕ) (first : ℕ) → ReadTo body n work₀ first work₀ 0 0 0
 room-start body n work₀ first =
     record { before = []; so = read-start (unitG8IU body) joinsG8IU (toLast body) n (atByte 0) work₀ first; inside = omega arith; left = refl }
 
 -- numbers stored after those that have been read change nothing of what is known
-stored-after : {P : Type 0} (u : ℕ → P → Answer (P × List ℕ)) (joins : List ℕ → List ℕ → Bool) (done : P → Bool) (n : ℕ) (p₀ : P) (w₀ : List ℕ) (from : ℕ) (w : List ℕ) (i : ℕ) (before : List ℕ) (p : P)
+pub stored-after : {P : Type 0} (u : ℕ → P → Answer (P × List ℕ)) (joins : List ℕ → List ℕ → Bool) (done : P → Bool) (n : ℕ) (p₀ : P) (w₀ : List ℕ) (from : ℕ) (w : List ℕ) (i : ℕ) (before : List ℕ) (p : P)
     → ReadSo u joins done n p₀ w₀ from w i before p → (w′ ys : List ℕ) → w′ ≡ sets w (from + i) ys → ReadSo u joins done n p₀ w₀ from w′ i before p
 stored-after u joins done n p₀ w₀ from w i before p so w′ ys e =
     record {
@@ -123,7 +113,7 @@ stored-after u joins done n p₀ w₀ from w i before p so w′ ys e =
       rest = so .rest;
     }
 
-module _ (body : List ℕ) (n : ℕ) (work₀ : List ℕ) (first : ℕ) (fits-in : first + n ≤ length work₀) (work : List ℕ) (i at room : ℕ) (so : RoomSo body n work₀ first work i at room) where
+module _ (body : List ℕ) (n : ℕ) (work₀ : List ℕ) (first : ℕ) (fits-in : first + n ≤ length work₀) (work : List ℕ) (i at room : ℕ) (so : ReadTo body n work₀ first work i at room) where
   -- a refusal, with what was stored since
   room-refused : (e : ℕ) (work′ ys : List ℕ) → work′ ≡ sets work (first + i) ys → readUnits (unitG8IU body) joinsG8IU (toLast body) n [] (atByte 0) ≡ refused e
       → Got (readCode codeG8IU body n) first work₀ work′ (reading.Refused e)
@@ -171,7 +161,7 @@ module _ (body : List ℕ) (n : ℕ) (work₀ : List ℕ) (first : ℕ) (fits-in
             room-refused fault work′ (is .stored) (is .here)
             (read-unjoined (unitG8IU body) joinsG8IU (toLast body) n (atByte 0) work₀ first (good body) work i (so .before) (atByte at) (so .so) _ h u-is (fit-is ∙ le-ltb room len l))
 
-        pub room-turn : room < len → RoomSo body n work₀ first work′ (i + count) (at + 9) waste
+        pub room-turn : room < len → ReadTo body n work₀ first work′ (i + count) (at + 9) waste
         room-turn l =
             let c = count-is body (n - i) (atByte at) inside (first + i) work work′ r is count waste q in
             record {

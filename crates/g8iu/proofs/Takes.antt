@@ -89,7 +89,7 @@ take-start body at out₀ to h =
     }
 
 -- a field in m bytes from an offset on, and the rest of them
-field-first : (s : List ℕ) (from m len : ℕ) → len ≤ m → from + m ≤ length s → (take len (part s from m) ≡ take len (drop from s)) × (drop len (part s from m) ≡ part s (from + len) (m - len))
+pub field-first : (s : List ℕ) (from m len : ℕ) → len ≤ m → from + m ≤ length s → (take len (part s from m) ≡ take len (drop from s)) × (drop len (part s from m) ≡ part s (from + len) (m - len))
 field-first s from m len h l =
     let e : m ≡ len + (m - len) = omega arith in
     let n : length (take len (drop from s)) ≡ len = length-take-le len (drop from s) (omega (arith, length-drop from s)) in (

@@ -1,2 +1,3 @@
 -- What this crate's helper functions answer, in the meaning's words.
 pub mod Blocks
+pub mod Plain

@@ -1,4 +1,5 @@
 // Code 3, G8IU: blocks of a control byte and 8 data bytes. Bit i is 0 when data byte i ends a number.
+use crate::plain::read_plain;
 use crate::putting::put_block;
 use crate::taking::Block;
 use crate::taking::FAULT;
@@ -18,6 +19,7 @@ ghost use Rattle.meaning.specs.Codes.{codeG8IU, readCode};
 ghost use Rattle.meaning.specs.Limits.{mostBytes};
 ghost use Rattle.meaning.specs.Places.{Source, Target, Wrote, Got, UnitIs, part};
 
+mod plain;
 mod putting;
 mod taking;
 
@@ -86,9 +88,10 @@ pub fn read(body: &[u8], n: usize, work: &mut [u32], from: Place) -> Reading
     ensures { λ r. ⌜ Got (readCode codeG8IU (now (body .entry)) n) (from .number) (now (work .entry)) (now (work .exit)) r ⌝ }
 {
     let first = from.number;
-    let mut i: usize = 0;
-    let mut at: usize = 0;
-    let mut room: usize = 0;
+    let plain = read_plain(body, n, work, first);
+    let mut i = plain.next - first;
+    let mut at = plain.at;
+    let mut room = plain.room;
     while i < n {
         if body.len() - at < 9 {
             return Reading::Refused(FAULT);

@@ -61,7 +61,7 @@ fn may_waste(waste: usize, count: usize, left: usize) -> bool
 }
 
 // Takes a block of eight numbers of one byte each, as the control byte 0 says.
-fn take_eight(body: &[u8], at: usize, left: usize, out: &mut [u32], to: usize) -> Block
+pub fn take_eight(body: &[u8], at: usize, left: usize, out: &mut [u32], to: usize) -> Block
     requires { ⌜ (at + 9 ≤ length (now body)) × (getD (now body) at 0 ≡ 0) × (to + min 8 left ≤ length (now out)) ⌝ }
     ensures { λ r. ⌜ BlockIs (blockAt (now (body .entry)) left at) to (now (out .entry)) (now (out .exit)) r ⌝ }
 {

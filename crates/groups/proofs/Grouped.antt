@@ -5,7 +5,7 @@ use mathlib.Core.Bool.{Bool, true}
 use mathlib.Core.List.{List, [], _∷_, _++_}
 use native.Mathlib.Omega.{arith}
 use lib.ListN.{length, getD, take, drop, length-append, length-take, take-append-drop}
-use Rattle.meaning.specs.Answer.{Answer, given, bind}
+use Rattle.meaning.specs.Answer.{given}
 use Rattle.meaning.specs.Codes.{always}
 use Rattle.meaning.specs.Fields.{fields}
 use Rattle.meaning.specs.Groups.{control, groupAt}
@@ -15,17 +15,9 @@ use Rattle.meaning.specs.declared.Position.{Position}
 use Rattle.meaning.proofs.Answers.{bind-given}
 use Rattle.meaning.proofs.Bounds.{below-nil, below-take, below-drop, below-append}
 use Rattle.meaning.proofs.Units.{Good, Whole}
+use Rattle.groups.specs.Reads.{Layout, unitBy}
 use Rattle.groups.proofs.Fours.{first-four}
 use Rattle.groups.proofs.OneGroup.{written-at, many-at, there-at, back-at}
-
--- where a group's control byte and its data stand, and where the next group is when the data ends at an offset
-pub record Layout : Type 0 where
-  pub head : Position → ℕ
-  pub from : Position → ℕ
-  pub next : Position → ℕ → Position
-
-abbrev pub unitBy : Layout → List ℕ → ℕ → Position → Answer (Position × List ℕ)
-unitBy g body left p = bind (groupAt body left (g .head p) (g .from p)) (λ t. given (g .next p (t .0), t .1))
 
 -- the group of ys stands at p
 pub record First (g : Layout) (body : List ℕ) (p : Position) (ys : List ℕ) : Type 0 where

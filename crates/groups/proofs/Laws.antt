@@ -1,11 +1,10 @@
 -- Codes 2 and 4 are lawful: what they write reads back, what they read is what would be written, and their size is as told. Assumes nothing.
 use Prim.Native.Nat.{ℕ, suc, _+_, _-_, _≤_, _<_}
 use mathlib.Core.Path.{_≡_, refl, sym, ap, ap₂, _∙_, subst}
-use mathlib.Core.Bool.{Bool}
 use mathlib.Core.List.{List, [], _∷_, _++_, map}
 use native.Mathlib.Numerals.{add-one}
 use native.Mathlib.Omega.{arith}
-use lib.Dec.{leb, eqb}
+use lib.Dec.{leb}
 use lib.ListN.{length, getD, take, drop, length-append, length-take, length-drop, drop-of-length-le, take-append-drop}
 use lib.Seq.{drop-append-seam, drop-drop, drop-cons, take-at, drop-at}
 use borrow.Author.Tests.{eq-eqb, eqb-true, le-leb}
@@ -23,13 +22,11 @@ use Rattle.meaning.proofs.Bounds.{below-append}
 use Rattle.meaning.proofs.Lawful.{Lawful, Read}
 use Rattle.meaning.proofs.Units.{Whole, read-many, read-written, read-holds}
 use Rattle.fields.proofs.Fields.{fields-most, fields-small}
+use Rattle.groups.specs.Reads.{unitBy, behind, apart, toTail}
 use Rattle.groups.proofs.Fours.{groups-next, controls-next, fields-next, controls-count, controls-small, groups-small, groups-size, stream-size}
-use Rattle.groups.proofs.Grouped.{Layout, First, Chain, unitBy, good, whole, Holds}
+use Rattle.groups.proofs.Grouped.{First, Chain, good, whole, Holds}
 
 -- ---- group of four: the data follows its control byte
-abbrev pub behind : Layout
-behind = record { head = λ p. p .head .byte; from = λ p. p .head .byte + 1; next = λ p end. atByte end }
-
 pub unit-groups : (body : List ℕ) → unitGroups body ≡ unitBy behind body
 unfolding unitGroups
 unit-groups body = refl
@@ -107,9 +104,6 @@ lawful-groups =
     }
 
 -- ---- Stream VByte: control bytes and data apart
-abbrev pub apart : Layout
-apart = record { head = λ p. p .head .byte; from = λ p. p .tail .byte; next = λ p end. atControl (p .head .byte + 1) end }
-
 record StreamAt (body : List ℕ) (c d : ℕ) (xs : List ℕ) : Type 0 where
   pub inside : d ≤ length body
   pub controls : part body c (groupCount (length xs)) ≡ map control (fours xs)
@@ -159,9 +153,6 @@ StreamHolds body p = StreamAt body (p .head .byte) (p .tail .byte)
 
 stream-chain : (body : List ℕ) → Chain apart body (StreamHolds body)
 stream-chain body = record { apart = stream-apart body; together = stream-together body }
-
-abbrev pub toTail : List ℕ → Position → Bool
-toTail body p = eqb (p .tail .byte) (length body)
 
 stream-whole : (body : List ℕ) → Below 256 body → Whole (unitBy apart body) always (toTail body) (Holds apart body (StreamHolds body) (stream-chain body))
 unfolding fields joined fours groupCount

@@ -8,3 +8,4 @@ pub mod Steps
 pub mod Answered
 pub mod Puts
 pub mod Turns
+pub mod Taking

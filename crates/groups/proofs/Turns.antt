@@ -23,11 +23,11 @@ use Rattle.meaning.proofs.Answers.{not-given}
 use Rattle.meaning.proofs.Tests.{by-test}
 use Rattle.meaning.proofs.Loops.{ReadSo, read-start, read-turn, read-refuse, read-end, got-refused, got-whole}
 use Rattle.groups.specs.Group.{GroupIs}
+use Rattle.groups.specs.Reads.{Layout, unitBy, behind, apart, toTail, Reads}
 use Rattle.groups.specs.declared.group.Group.the-variants as group
 use Rattle.groups.specs.declared.group.GroupRead.{GroupRead}
 use Rattle.groups.proofs.Answered.{group-ends}
-use Rattle.groups.proofs.Grouped.{Layout, unitBy, good}
-use Rattle.groups.proofs.Laws.{behind, apart, toTail}
+use Rattle.groups.proofs.Grouped.{good}
 use Rattle.groups.proofs.OneGroup.{many-at, there-at, inside-at}
 
 -- ---- one turn: the group that was read
@@ -51,11 +51,7 @@ turn body left at from r h four some end k e =
       inside = inside-at body left at from (end .byte, take k (r .numbers)) some is .1;
     }
 
--- ---- i numbers have been read and stand in work, and the next group is at p
-pub record Reads (g : Layout) (body : List ℕ) (done : Position → Bool) (n : ℕ) (p₀ : Position) (w₀ : List ℕ) (from : ℕ) (w : List ℕ) (i : ℕ) (p : Position) : Type 0 where
-  pub before : List ℕ
-  pub so : ReadSo (unitBy g body) always done n p₀ w₀ from w i before p
-
+-- ---- turn by turn
 module _ (g : Layout) (body : List ℕ) (done : Position → Bool) (n : ℕ) (p₀ : Position) (w₀ : List ℕ) (from : ℕ) where
   pub reads-start : Reads g body done n p₀ w₀ from w₀ 0 p₀
   reads-start = record { before = []; so = read-start (unitBy g body) always done n p₀ w₀ from }
@@ -87,6 +83,31 @@ module _ (g : Layout) (body : List ℕ) (done : Position → Bool) (n : ℕ) (p�
           (λ d. let e = is ∙ read-end (unitBy g body) always done n p₀ w₀ from (good g body) w i (so .before) p (so .so) all ∙ rw d in
           let g = got-refused (unitBy g body) always done n p₀ w₀ from (good g body) w i (so .before) p (so .so) a is fault e in
           record { told = h ∙ rw d (g .told); here = g .here; kept = g .kept })
+
+-- ---- a reading that another one goes on with
+module _ {g : Layout} {body : List ℕ} {done : Position → Bool} {n : ℕ} {p₀ : Position} {w₀ : List ℕ} {from : ℕ} {w₁ : List ℕ} {i₁ : ℕ} {p₁ : Position} (first : Reads g body done n p₀ w₀ from w₁ i₁ p₁) where
+  -- the second starts from the work that the first leaves
+  pub reads-on : Reads g body done n p₀ w₁ from w₁ i₁ p₁
+  reads-on =
+      let s = first .so in
+      record { before = first .before; so = record { sofar = s .sofar; counted = s .counted; most = s .most; here = s .here; kept = refl; long = refl; rest = s .rest } }
+
+  pub reads-both : {w : List ℕ} {i : ℕ} {p : Position} → Reads g body done n p₀ w₁ from w i p → Reads g body done n p₀ w₀ from w i p
+  reads-both then =
+      let s = then .so in
+      record {
+        before = then .before;
+        so =
+            record {
+              sofar = s .sofar;
+              counted = s .counted;
+              most = s .most;
+              here = s .here;
+              kept = s .kept ∙ first .so .kept;
+              long = s .long ∙ first .so .long;
+              rest = s .rest;
+            };
+      }
 
 -- ---- each code's reading is such a loop
 pub groups-reading : (body : List ℕ) (n : ℕ) → readCode codeGroups body n ≡ readUnits (unitBy behind body) always (toLast body) n [] (atByte 0)

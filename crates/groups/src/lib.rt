@@ -7,6 +7,8 @@ use crate::group::group_at;
 use crate::put::control_of;
 use crate::put::put_controls;
 use crate::put::put_fields;
+use crate::whole::whole_groups;
+use crate::whole::whole_stream;
 use leaves::put;
 use meaning::Bit;
 use meaning::Offset;
@@ -30,6 +32,7 @@ ghost use Rattle.meaning.specs.Places.{Source, Target, Wrote, Got, UnitIs, part
 
 mod group;
 mod put;
+mod whole;
 
 // How many groups n numbers make; no sum passes n.
 fn group_count(n: usize) -> usize
@@ -185,8 +188,9 @@ pub fn read_groups(body: &[u8], n: usize, work: &mut [u32], from: Place) -> Read
     ensures { λ r. ⌜ Got (readCode codeGroups (now (body .entry)) n) (from .number) (now (work .entry)) (now (work .exit)) r ⌝ }
 {
     let first = from.number;
-    let mut i: usize = 0;
-    let mut at: usize = 0;
+    let whole = whole_groups(body, n, work, first);
+    let mut i = whole.numbers;
+    let mut at = whole.end;
     while i < n {
         let data = at + 1;
         let r = group_at(body, n - i, Offset { byte: at }, Offset { byte: data });
@@ -215,9 +219,10 @@ pub fn read_stream(body: &[u8], n: usize, work: &mut [u32], from: Place) -> Read
     if body.len() < groups {
         return Reading::Refused(FAULT);
     }
-    let mut i: usize = 0;
-    let mut at: usize = 0;
-    let mut to = groups;
+    let whole = whole_stream(body, n, groups, work, first);
+    let mut i = whole.numbers;
+    let mut at = i / 4;
+    let mut to = whole.end;
     while i < n {
         let r = group_at(body, n - i, Offset { byte: at }, Offset { byte: to });
         let group = r.group;

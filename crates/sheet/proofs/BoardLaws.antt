@@ -17,7 +17,7 @@ use Rattle.meaning.specs.declared.Reading.{Reading}
 use Rattle.meaning.specs.declared.Reading.the-variants.{Whole, Refused}
 use Rattle.meaning.proofs.Answers.{not-given}
 use Rattle.meaning.proofs.Tests.{both-true}
-use Rattle.stages.proofs.Gots.{got-given}
+use Rattle.stages.proofs.Gots.{got-given, got-not}
 use Rattle.table.specs.Entries.{Here, EntryIs}
 use Rattle.table.specs.Offsets.{columnCount, Within}
 use Rattle.table.specs.declared.Entry.{Entry}
@@ -27,7 +27,6 @@ use Rattle.sheet.specs.Board.{Known, ReadAgain, jobsHold, endingsTold}
 use Rattle.sheet.specs.Opened.{columnOf, Readable}
 use Rattle.sheet.proofs.Checks.{check-passed, column-passed, count-most}
 use Rattle.sheet.proofs.Entered.{column-of, readable}
-use Rattle.sheet.proofs.ReadColumns.{got-not}
 
 -- ---- a column read once more
 module _ (sheet : List ℕ) (k : ℕ) (work : List ℕ) (known : Known sheet k (length work)) where
@@ -54,7 +53,7 @@ module _ (sheet : List ℕ) (k : ℕ) (work : List ℕ) (known : Known sheet k (
       pub again-never : (z : ℕ) → q ≡ Refused z → ReadAgain sheet k w₁ 0
       again-never z t =
           let (xs, r) = column-passed sheet (length work) (known .checked) k (known .exists) in
-          absurd (not-given z xs (sym (same ∙ got-not (readColumn (columnOf sheet e)) work w₁ q so z t) ∙ r))
+          absurd (not-given z xs (sym (same ∙ got-not (readColumn (columnOf sheet e)) 0 work w₁ q so z t) ∙ r))
 
 -- ---- the jobs
 pub checked-whole : (sheet : List ℕ) (work : ℕ) → check sheet work ≡ passed → (k : ℕ) → k < columnCount sheet → Within sheet k

@@ -17,7 +17,7 @@ use Rattle.meaning.specs.Sheet.{Column, columnsOf, columnAt, sound, readColumn,
 use Rattle.meaning.specs.declared.Reading.{Reading}
 use Rattle.meaning.specs.declared.Reading.the-variants.{Whole, Refused}
 use Rattle.meaning.proofs.Tests.{both-true}
-use Rattle.stages.proofs.Gots.{got-given}
+use Rattle.stages.proofs.Gots.{got-given, got-not}
 use Rattle.table.specs.Entries.{EntryIs}
 use Rattle.table.specs.Offsets.{columnCount, blankColumn}
 use Rattle.table.specs.Rules.{entryHolds}
@@ -27,7 +27,6 @@ use Rattle.table.proofs.InTurn.{PassedBelow, below-turn, below-refuse, below-en
 use Rattle.table.proofs.Sounds.{ask-passed, then-passed, sound-table}
 use Rattle.sheet.specs.Opened.{columnOf, Ready}
 use Rattle.sheet.proofs.Entered.{column-of}
-use Rattle.sheet.proofs.ReadColumns.{got-not}
 
 -- ---- no count is above the largest
 each-most : {A : Type 0} (f : A → ℕ) (cs : List A) (d : A) (i : ℕ) → i < length cs → f (getD cs i d) ≤ largest (map f cs)
@@ -98,4 +97,4 @@ module _ (sheet : List ℕ) (columns : ℕ) (n : columns ≡ columnCount sheet) 
     pub bodies-refuse : (z : ℕ) → q ≡ Refused z → blamed z k ≡ inTurn readColumn 0 (columnsOf sheet)
     bodies-refuse z t =
         sym (below-refuse readColumn (columnsOf sheet) blankColumn k so (omega (arith, column-count sheet)) z
-        (ap readColumn (sym (column-of sheet k e is)) ∙ got-not (readColumn (columnOf sheet e)) w w₁ q got z t))
+        (ap readColumn (sym (column-of sheet k e is)) ∙ got-not (readColumn (columnOf sheet e)) 0 w w₁ q got z t))

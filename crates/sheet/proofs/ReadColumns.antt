@@ -7,12 +7,11 @@ use native.Mathlib.Omega.{arith}
 use lib.Dec.{eqb}
 use lib.ListN.{length, length-take}
 use borrow.Author.Tests.{eq-eqb, ne-eqb}
-use Rattle.meaning.specs.Answer.{Answer, given, refused, bind, need, amount}
+use Rattle.meaning.specs.Answer.{Answer, given, refused, bind, need}
 use Rattle.meaning.specs.Limits.{rising, fault}
 use Rattle.meaning.specs.Lists.{rises}
 use Rattle.meaning.specs.Places.{part, Below, Got}
 use Rattle.meaning.specs.Plan.{planOf}
-use Rattle.meaning.specs.Says.{readingSays}
 use Rattle.meaning.specs.Sheet.{Column, ofKind, readColumn}
 use Rattle.meaning.specs.Stages.{read}
 use Rattle.meaning.specs.declared.Reading.{Reading}
@@ -28,14 +27,6 @@ use Rattle.codes.proofs.Numbered.{laws}
 -- what is asked of a list that was read for a kind
 abbrev keep : ℕ → List ℕ → Answer (List ℕ)
 keep kind xs = need (ofKind kind xs) fault (given xs)
-
--- a refusal told is the answer's
-pub got-not : (a : Answer (List ℕ)) (w w₁ : List ℕ) (q : Reading) → Got a 0 w w₁ q → (z : ℕ) → q ≡ Refused z → a ≡ refused z
-got-not a w w₁ q so z e = go a (sym (ap readingSays e) ∙ so .told)
-  where
-    go : (b : Answer (List ℕ)) → refused z ≡ amount b → b ≡ refused z
-    go (given xs) t = let y : _≡_ {A = ℕ} 0 1 = cc in absurd (omega arith)
-    go (refused y) t = let same : z ≡ y = cc in ap (λ (k : ℕ). refused k) (sym same)
 
 any-kept : (kind : ℕ) → eqb kind rising ≡ false → (a : Answer (List ℕ)) → a ≡ bind a (keep kind)
 unfolding ofKind

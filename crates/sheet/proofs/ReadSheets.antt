@@ -15,12 +15,12 @@ use Rattle.meaning.specs.Says.{readingSays}
 use Rattle.meaning.specs.Sheet.{Column, readColumn}
 use Rattle.meaning.specs.declared.Reading.{Reading}
 use Rattle.meaning.specs.declared.Reading.the-variants.{Whole, Refused}
-use Rattle.stages.proofs.Gots.{got-given}
+use Rattle.stages.proofs.Gots.{got-given, got-not}
 use Rattle.table.specs.Entries.{Opened}
 use Rattle.table.specs.declared.Entry.{Entry}
 use Rattle.sheet.specs.Opened.{columnOf}
 use Rattle.sheet.proofs.Entered.{column-of, body-bytes}
-use Rattle.sheet.proofs.ReadColumns.{got-not, column-many}
+use Rattle.sheet.proofs.ReadColumns.{column-many}
 
 -- what a reading says and leaves in the output
 abbrev pub ReadSays : Answer (List ℕ) → List ℕ → List ℕ → Reading → Type 0
@@ -83,7 +83,7 @@ module _ (sheet : List ℕ) (k : ℕ) (w out : List ℕ) (e : Entry) (o : Opened
       is = read-all sheet k (length w) (length out) (columnOf sheet e) (opened-column sheet k e o) room fits
 
       pub says-fault : (z : ℕ) → q ≡ Refused z → ReadSays answer out out (Refused z)
-      says-fault z t = says-refused answer out z (is ∙ got-not (readColumn (columnOf sheet e)) w w₁ q so z t)
+      says-fault z t = says-refused answer out z (is ∙ got-not (readColumn (columnOf sheet e)) 0 w w₁ q so z t)
 
       -- the numbers that stand in work are those that the entry counts
       module _ (bytes : Below 256 sheet) (n : ℕ) (t : q ≡ Whole n) where

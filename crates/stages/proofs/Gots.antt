@@ -39,7 +39,7 @@ module _ (a : Answer (List ℕ)) (from : ℕ) (w w₁ : List ℕ) (q : Reading) 
           (ap (λ (l : List ℕ). given l) (sym is), ap length is ∙ many)
       go (refused r) h t = let z : _≡_ {A = ℕ} 0 1 = cc in absurd (omega arith)
 
-  got-not : (r : ℕ) → q ≡ Refused r → a ≡ refused r
+  pub got-not : (r : ℕ) → q ≡ Refused r → a ≡ refused r
   got-not r e = go a (sym (ap readingSays e) ∙ so .told)
     where
       go : (b : Answer (List ℕ)) → refused r ≡ amount b → b ≡ refused r

@@ -1,5 +1,4 @@
 -- `window` meets its contract, whether or not eight bytes are there. Assumes nothing.
-use mathlib.Core.Path.{refl}
 use Rattle.elias.proofs.Windows.{window-of}
 use borrow.Author.Needs.{needs}
 use Rattle.elias.proofs.input.window.Statement.{statement}
@@ -8,58 +7,11 @@ use Rattle.elias.proofs.input.window.Tie as tie
 add-if1 : tie.Need-add-if1
 add-if1 c = search needs
 
-shared-slice-read-eight : tie.Need-shared-slice-read-eight
-shared-slice-read-eight c = search needs
-
-add-eight : tie.Need-add-eight
-add-eight c = search needs
-
-shared-slice-read-eight-2 : tie.Need-shared-slice-read-eight-2
-shared-slice-read-eight-2 c = search needs
-
-add-eight-2 : tie.Need-add-eight-2
-add-eight-2 c = search needs
-
-shared-slice-read-eight-3 : tie.Need-shared-slice-read-eight-3
-shared-slice-read-eight-3 c = search needs
-
-add-eight-3 : tie.Need-add-eight-3
-add-eight-3 c = search needs
-
-shared-slice-read-eight-4 : tie.Need-shared-slice-read-eight-4
-shared-slice-read-eight-4 c = search needs
-
-add-eight-4 : tie.Need-add-eight-4
-add-eight-4 c = search needs
-
-shared-slice-read-eight-5 : tie.Need-shared-slice-read-eight-5
-shared-slice-read-eight-5 c = search needs
-
-add-eight-5 : tie.Need-add-eight-5
-add-eight-5 c = search needs
-
-shared-slice-read-eight-6 : tie.Need-shared-slice-read-eight-6
-shared-slice-read-eight-6 c = search needs
-
-add-eight-6 : tie.Need-add-eight-6
-add-eight-6 c = search needs
-
-shared-slice-read-eight-7 : tie.Need-shared-slice-read-eight-7
-shared-slice-read-eight-7 c = search needs
-
-add-eight-7 : tie.Need-add-eight-7
-add-eight-7 c = search needs
-
-shared-slice-read-eight-8 : tie.Need-shared-slice-read-eight-8
-shared-slice-read-eight-8 c = search needs
-
-eight-requires : tie.Need-eight-requires
-eight-requires c κs = search needs
+eight-inside-requires : tie.Need-eight-inside-requires
+eight-inside-requires c κs = search needs
 
 returns : tie.Need-returns
-returns c =
-    let a = c .before .before .before .before .before .before .before .before .before .before .before .args in
-    window-of (a .body .now) (a .at) (c .eight .result) _ _ _ _ _ _ _ _ (c .eight .ensures) refl refl refl refl refl refl refl refl
+returns c = search needs
 
 byte-at-requires : tie.Need-byte-at-requires
 byte-at-requires c κs = search needs
@@ -106,36 +58,21 @@ add-byte-at-7 c = search needs
 byte-at-requires-8 : tie.Need-byte-at-requires-8
 byte-at-requires-8 c κs = search needs
 
-eight-requires-2 : tie.Need-eight-requires-2
-eight-requires-2 c κs = search needs
+eight-requires : tie.Need-eight-requires
+eight-requires c κs = search needs
 
 returns-2 : tie.Need-returns-2
 returns-2 c =
     let a = c .before .before .before .before .before .before .before .before .before .before .before .args in
-    window-of (a .body .now) (a .at) (c .eight2 .result) (c .before .before .before .before .before .before .before .before .byte-at .result) (c .before .before .before .before .before .before .before .byte-at2 .result) (c .before .before .before .before .before .before .byte-at3 .result) (c .before .before .before .before .before .byte-at4 .result) (c .before .before .before .before .byte-at5 .result) (c .before .before .before .byte-at6 .result) (c .before .before .byte-at7 .result) (c .before .byte-at8 .result)
-    (c .eight2 .ensures) (c .before .before .before .before .before .before .before .before .byte-at .ensures) (c .before .before .before .before .before .before .before .byte-at2 .ensures) (c .before .before .before .before .before .before .byte-at3 .ensures) (c .before .before .before .before .before .byte-at4 .ensures) (c .before .before .before .before .byte-at5 .ensures) (c .before .before .before .byte-at6 .ensures) (c .before .before .byte-at7 .ensures) (c .before .byte-at8 .ensures)
+    window-of (a .body .now) (a .at) (c .eight .result) (c .before .before .before .before .before .before .before .before .byte-at .result) (c .before .before .before .before .before .before .before .byte-at2 .result) (c .before .before .before .before .before .before .byte-at3 .result) (c .before .before .before .before .before .byte-at4 .result) (c .before .before .before .before .byte-at5 .result) (c .before .before .before .byte-at6 .result) (c .before .before .byte-at7 .result) (c .before .byte-at8 .result)
+    (c .eight .ensures) (c .before .before .before .before .before .before .before .before .byte-at .ensures) (c .before .before .before .before .before .before .before .byte-at2 .ensures) (c .before .before .before .before .before .before .byte-at3 .ensures) (c .before .before .before .before .before .byte-at4 .ensures) (c .before .before .before .before .byte-at5 .ensures) (c .before .before .before .byte-at6 .ensures) (c .before .before .byte-at7 .ensures) (c .before .byte-at8 .ensures)
 
 pub window-spec : {M : Type 1} → statement M
 window-spec =
     tie.close
     (tie.spec
     add-if1
-    shared-slice-read-eight
-    add-eight
-    shared-slice-read-eight-2
-    add-eight-2
-    shared-slice-read-eight-3
-    add-eight-3
-    shared-slice-read-eight-4
-    add-eight-4
-    shared-slice-read-eight-5
-    add-eight-5
-    shared-slice-read-eight-6
-    add-eight-6
-    shared-slice-read-eight-7
-    add-eight-7
-    shared-slice-read-eight-8
-    eight-requires
+    eight-inside-requires
     returns
     byte-at-requires
     add-byte-at
@@ -152,5 +89,5 @@ window-spec =
     byte-at-requires-7
     add-byte-at-7
     byte-at-requires-8
-    eight-requires-2
+    eight-requires
     returns-2)
