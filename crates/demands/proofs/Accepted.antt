@@ -1,10 +1,10 @@
 -- Demand 3, first half: lists of their kinds within the limits, under plans that are passed, are written within the worst size, and what is written passes. Assumes nothing.
-use Prim.Native.Nat.{ℕ, zero, suc, _+_, _*_, _≤_, _<_}
+use Prim.Native.Nat.{ℕ, zero, suc, _*_, _≤_, _<_}
 use mathlib.Core.Path.{_≡_, refl, sym, ap, _∙_}
 use mathlib.Core.Bool.{true, _&&_}
 use mathlib.Core.List.{List, [], _∷_, map}
 use native.Mathlib.Omega.{arith}
-use lib.Dec.{leb, eqb}
+use lib.Dec.{leb}
 use lib.ListN.{length, getD, drop}
 use borrow.Author.Tests.{leb-true}
 use Rattle.meaning.specs.Answer.{Answer, given, Verdict, passed, blamed, inTurn, after}
@@ -20,7 +20,7 @@ use Rattle.table.proofs.Lists.{each-holds}
 use Rattle.writer.specs.Orders.{blankListed, orderHolds, listJudged, listRises}
 use Rattle.writer.proofs.Columns.{listed-count}
 use Rattle.writer.proofs.Worst.{listed-small, listed-few, sheet-written}
-use Rattle.demands.proofs.Passing.{Writable, AllWritable, written-passes, list-back}
+use Rattle.demands.proofs.Passing.{AllWritable, written-passes, list-back}
 
 -- ---- orders that hold
 pub record Held (orders : List Order) (numbers : List ℕ) : Type 0 where

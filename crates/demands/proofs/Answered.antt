@@ -1,23 +1,20 @@
 -- The demands, said of every answer and output that meet the operations' contracts. Assumes nothing.
 use Prim.Native.Nat.{ℕ, _*_, _≤_, _<_}
-use mathlib.Core.Path.{_≡_, sym, ap, _∙_}
+use mathlib.Core.Path.{_≡_, ap, _∙_}
 use mathlib.Core.Bool.{true}
 use mathlib.Core.List.{List, _++_, map}
-use native.Mathlib.Omega.{arith}
-use lib.Dec.{eqb}
 use lib.ListN.{length, getD, drop}
 use borrow.Author.Tests.{eq-eqb}
 use Rattle.meaning.specs.Answer.{Answer, given, amount, filled, passed, inTurn}
 use Rattle.meaning.specs.Limits.{numberLimit, mostBytes, planBytes}
 use Rattle.meaning.specs.Lists.{all, largest}
-use Rattle.meaning.specs.Operations.{listedBy, ordersHold, ordersOf, writeSheet, writeApart, check, readSheet, lookSheet, numbersAt}
+use Rattle.meaning.specs.Operations.{ordersHold, ordersOf, writeSheet, writeApart, check, readSheet, lookSheet, numbersAt}
 use Rattle.meaning.specs.Places.{Below}
-use Rattle.meaning.specs.Says.{sizedSays, checkedSays, readingSays, foundSays}
+use Rattle.meaning.specs.Says.{sizedSays, readingSays, foundSays}
 use Rattle.meaning.specs.Sheet.{Listed, sheetBytes, worstSheet, columnAt, largestCount}
 use Rattle.meaning.specs.declared.Sized.{Sized}
 use Rattle.meaning.specs.declared.Reading.{Reading}
 use Rattle.meaning.specs.declared.Found.{Found}
-use Rattle.meaning.specs.declared.Checked.{Checked}
 use Rattle.table.specs.Offsets.{columnCount}
 use Rattle.writer.specs.Orders.{listJudged, listRises, columnsBy}
 use Rattle.sheet.proofs.Passing.{reads-all, looks-all}

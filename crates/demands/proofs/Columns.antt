@@ -1,15 +1,15 @@
 -- A sheet that was written holds the columns that it was written from. Assumes nothing.
-use Prim.Native.Nat.{ℕ, zero, suc, _+_, _*_, _≤_, _<_}
+use Prim.Native.Nat.{ℕ, suc, _+_, _*_, _<_}
 use mathlib.Core.Path.{_≡_, refl, sym, ap, ap₂, _∙_}
 use mathlib.Core.List.{List, [], _∷_, _++_, append-assoc, map}
 use native.Mathlib.Omega.{arith}
 use lib.ListN.{length, getD, take, drop, length-append}
 use lib.Seq.{take-at, drop-at, drop-drop}
-use Rattle.meaning.specs.Bytes.{word, wordAt, numberOf}
+use Rattle.meaning.specs.Bytes.{word, wordAt}
 use Rattle.meaning.specs.Limits.{numberLimit, planBytes}
 use Rattle.meaning.specs.Lists.{joined}
 use Rattle.meaning.specs.Sheet.{Listed, bodyOf, entryBytes, sheetBytes, entrySize, Column, columnIn, columnsIn, columnsOf, tableSize}
-use Rattle.stages.proofs.Words.{word-first, word-after, word-next}
+use Rattle.stages.proofs.Words.{word-first, word-next}
 use Rattle.table.proofs.Lists.{word-drop}
 use Rattle.writer.specs.Orders.{blankListed}
 use Rattle.writer.proofs.Entries.{entry-long}

@@ -1,15 +1,15 @@
 -- What each column of a sheet that passes the check keeps: its list, written by its plan, is its body. Assumes nothing.
-use Prim.Native.Nat.{ℕ, zero, suc, _+_, _*_, _≤_, _<_}
-use mathlib.Core.Path.{_≡_, refl, sym, ap, ap₂, _∙_, subst}
+use Prim.Native.Nat.{ℕ, _≤_, _<_}
+use mathlib.Core.Path.{_≡_, refl, sym, _∙_, subst}
 use mathlib.Core.Bool.{Bool, true, false}
 use mathlib.Core.List.{List, [], _∷_}
 use native.Mathlib.Omega.{arith}
-use lib.Dec.{leb, eqb}
+use lib.Dec.{eqb}
 use lib.ListN.{length, getD}
 use borrow.Author.Tests.{eqb-true}
-use Rattle.meaning.specs.Answer.{given, list, bind, need, passed}
+use Rattle.meaning.specs.Answer.{given, list, passed}
 use Rattle.meaning.specs.Codes.{isCode}
-use Rattle.meaning.specs.Limits.{numberLimit, mostNumbers, planBytes, rising, fault}
+use Rattle.meaning.specs.Limits.{mostNumbers, planBytes, rising, fault}
 use Rattle.meaning.specs.Lists.{all}
 use Rattle.meaning.specs.Operations.{check, numbersAt}
 use Rattle.meaning.specs.Places.{Below}
@@ -17,7 +17,7 @@ use Rattle.meaning.specs.Plan.{planOf, planAt, good, wellFormed, judgePlan, pla
 use Rattle.meaning.specs.Sheet.{ofKind, bodyOf, Column, columnsOf, columnAt, readColumn}
 use Rattle.meaning.specs.Stages.{read}
 use Rattle.meaning.proofs.Answers.{bind-given, need-given}
-use Rattle.meaning.proofs.Tests.{both-true, by-test}
+use Rattle.meaning.proofs.Tests.{both-true}
 use Rattle.codes.proofs.Numbered.{laws}
 use Rattle.stages.proofs.Back.{back}
 use Rattle.table.specs.Offsets.{columnCount, blankColumn}

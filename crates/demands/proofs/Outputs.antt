@@ -4,7 +4,7 @@ use mathlib.Core.Path.{_≡_, refl}
 use mathlib.Core.List.{List}
 use lib.ListN.{length, take, drop}
 use lib.Seq.{take-append-seam, drop-append-seam}
-use Rattle.meaning.specs.Answer.{given, refused, filled, amount}
+use Rattle.meaning.specs.Answer.{given, refused, filled}
 
 module _ (out : List ℕ) where
   pub refusal-keeps : (e : ℕ) → filled (refused e) out ≡ out
@@ -16,7 +16,3 @@ module _ (out : List ℕ) where
 
     pub rest-kept : drop (length xs) (filled (given xs) out) ≡ drop (length xs) out
     rest-kept = drop-append-seam xs (drop (length xs) out)
-
-    -- and the answer tells how many
-    pub amount-told : amount (given xs) ≡ given (length xs)
-    amount-told = refl

@@ -1,20 +1,20 @@
 -- A sheet that was written passes the check, and its lists are read back. Assumes nothing.
 use Prim.Native.Nat.{ℕ, zero, suc, _+_, _*_, _≤_, _<_}
-use mathlib.Core.Path.{_≡_, refl, sym, ap, ap₂, _∙_}
+use mathlib.Core.Path.{_≡_, refl, sym, ap, _∙_}
 use mathlib.Core.Bool.{true, _&&_}
-use mathlib.Core.List.{List, [], _∷_, _++_, map}
+use mathlib.Core.List.{List, [], _∷_, map}
 use native.Mathlib.Omega.{arith}
 use lib.Dec.{leb, eqb}
 use lib.ListN.{length, getD, length-append}
 use borrow.Author.Tests.{le-leb, eq-eqb}
 use Rattle.meaning.specs.Answer.{Answer, given, list, passed, inTurn}
-use Rattle.meaning.specs.Limits.{numberLimit, mostColumns, mostNumbers, mostBytes, planBytes, rising}
+use Rattle.meaning.specs.Limits.{numberLimit, mostColumns, mostNumbers, mostBytes, rising}
 use Rattle.meaning.specs.Lists.{all, sum, joined, largest}
 use Rattle.meaning.specs.Operations.{check, numbersAt}
 use Rattle.meaning.specs.Places.{Below}
 use Rattle.meaning.specs.Plan.{planOf, passes, judgePlan}
 use Rattle.meaning.specs.Sheet.{Listed, ofKind, bodyOf, sheetBytes, Column, columnsOf, columnAt, isSheet, tableHolds, sound, readColumn, largestCount, tableSize}
-use Rattle.meaning.specs.Stages.{read, write}
+use Rattle.meaning.specs.Stages.{read}
 use Rattle.meaning.proofs.Tests.{true-both}
 use Rattle.codes.proofs.Numbered.{laws}
 use Rattle.stages.proofs.Forth.{forth-plan}
@@ -22,7 +22,7 @@ use Rattle.stages.proofs.Most.{most, plan-worst}
 use Rattle.table.specs.Offsets.{blankColumn}
 use Rattle.table.specs.Rules.{entryHolds, planJudged}
 use Rattle.table.proofs.Sounds.{plan-passed, by-plans}
-use Rattle.writer.specs.Orders.{blankListed, listJudged}
+use Rattle.writer.specs.Orders.{blankListed}
 use Rattle.writer.proofs.Worst.{judged-long}
 use Rattle.sheet.proofs.Checks.{check-bodies}
 use Rattle.demands.specs.Own.{columnFor}

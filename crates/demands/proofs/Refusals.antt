@@ -8,13 +8,12 @@ use lib.Dec.{leb, ltb, eqb}
 use lib.ListN.{length}
 use borrow.Author.Tests.{eqb-true, leb-true}
 use Rattle.meaning.specs.Answer.{Answer, given, refused, bind, need, number, Verdict, passed, blamed, _then_, ask, inTurn, after}
-use Rattle.meaning.specs.Limits.{mostColumns, mostNumbers, mostBytes, planBytes, rising, fault, noSheet, badTable, badPlan, unfitPlan, noColumn, noPlace, noRoom, shortWork, falls, badOrders, badBoard}
+use Rattle.meaning.specs.Limits.{mostNumbers, mostBytes, planBytes, rising, fault, noSheet, badTable, badPlan, unfitPlan, noColumn, noPlace, noRoom, shortWork, falls, badOrders, badBoard}
 use Rattle.meaning.specs.Lists.{all, largest}
 use Rattle.meaning.specs.Operations.{Order, listedBy, ordersHold, writeListed, writeSheet, ordersOf, writeApart, check, column, readSheet, lookSheet, fetch, openReader, numbersAt, boardHolds, boardVerdict, tallied, countBoard}
 use Rattle.meaning.specs.Plan.{planOf, wellFormed, passes, judgePlan, judge, worstSize}
-use Rattle.meaning.specs.Sheet.{Listed, ofKind, sheetBytes, Column, columnsOf, columnAt, isSheet, tableHolds, sound, readColumn, largestCount}
+use Rattle.meaning.specs.Sheet.{Listed, sheetBytes, Column, columnsOf, isSheet, tableHolds, sound, readColumn, largestCount}
 use Rattle.meaning.specs.Stages.{look}
-use Rattle.meaning.specs.declared.Tally.{Tally}
 use Rattle.meaning.proofs.Answers.{Faulty}
 use Rattle.meaning.proofs.Tests.{both-true, by-test}
 use Rattle.table.proofs.InTurn.{turn-passed, turn-refused}

@@ -1,14 +1,14 @@
 -- Demand 2: a sheet that passes the check, written again from its own lists, kinds and plans, is byte for byte the same. Assumes nothing.
-use Prim.Native.Nat.{ℕ, zero, suc, _+_, _*_, _≤_, _<_}
+use Prim.Native.Nat.{ℕ, zero, suc, _+_, _*_, _≤_}
 use mathlib.Core.Path.{_≡_, refl, sym, ap, ap₂, _∙_}
-use mathlib.Core.Bool.{Bool, true, _&&_}
+use mathlib.Core.Bool.{true}
 use mathlib.Core.List.{List, [], _∷_, _++_, append-assoc, map}
 use native.Mathlib.Omega.{arith}
 use lib.Dec.{leb, eqb}
 use lib.ListN.{length, getD, take, drop, length-append, length-drop, length-map, take-append-drop}
 use lib.Seq.{take-at, drop-at, drop-drop, take-add}
 use borrow.Author.Tests.{le-leb, eq-eqb}
-use Rattle.meaning.specs.Answer.{given, passed, inTurn}
+use Rattle.meaning.specs.Answer.{given, passed}
 use Rattle.meaning.specs.Bytes.{word, wordAt}
 use Rattle.meaning.specs.Limits.{mostColumns, mostNumbers, mostBytes, planBytes, rising}
 use Rattle.meaning.specs.Lists.{all, sum, joined, largest}
