@@ -1,6 +1,7 @@
 // Does one operation on one sheet so often, for its instructions to be counted from outside:
 //     bench ENGINE OPERATION REPEATS PLACE WIDTH PLAN..
 // ENGINE: library, plain or streamvbyte; OPERATION: read, write or lookup; WIDTH: small, mixed or wide; PLAN: its bytes.
+// With `times` for the engine it prints the nanoseconds of a call by the library and by plain C, in turns, the best of many rounds.
 // The sheet has one column of 1,024 numbers, the same for each engine and made before the first repeat.
 
 #include "pelluvion.h"
@@ -9,6 +10,7 @@
 #include <stdlib.h>
 #include <string.h>
 #include <streamvbyte.h>
+#include <time.h>
 
 enum { N = 1024, REFERENCE = 16, DIFFERENCES, RUNS };
 
@@ -88,6 +90,33 @@ static const struct { const char *engine, *operation; int (*call)(void); } calls
     {"streamvbyte", "read", stream_read}, {"streamvbyte", "write", stream_write},
 };
 
+static double seconds(int (*call)(void), int repeats)
+{
+    struct timespec from, to;
+    clock_gettime(CLOCK_MONOTONIC, &from);
+    for (int i = 0; i < repeats; i++)
+        if (call() != 0)
+            exit(1);
+    clock_gettime(CLOCK_MONOTONIC, &to);
+    return to.tv_sec - from.tv_sec + 1e-9 * (to.tv_nsec - from.tv_nsec);
+}
+
+// The two ways side by side, so that both meet the same machine.
+static int times(const char *operation, int repeats)
+{
+    enum { ENGINES = 2, ROUNDS = 25, OPERATIONS = 3 };
+    double best[ENGINES] = {1e9, 1e9};
+    for (int round = 0; round < ROUNDS; round++)
+        for (int e = 0; e < ENGINES; e++)
+            for (int o = 0; o < OPERATIONS; o++)
+                if (strcmp(calls[OPERATIONS * e + o].operation, operation) == 0) {
+                    double took = seconds(calls[OPERATIONS * e + o].call, repeats);
+                    best[e] = took < best[e] ? took : best[e];
+                }
+    printf("%.2f %.2f\n", 1e9 * best[0] / repeats, 1e9 * best[1] / repeats);
+    return 0;
+}
+
 int main(int argc, char **argv)
 {
     for (int i = 6; i < argc && i < 6 + PELLUVION_PLAN; i++)
@@ -99,6 +128,8 @@ int main(int argc, char **argv)
     place = atoi(argv[4]);
     if (plain_write(&kind, 1, plan, sizeof plan, &n, 1, list, N, work, 8 * N, sheet, sizeof sheet, &sheet_len) != 0)
         return 2;
+    if (strcmp(argv[1], "times") == 0)
+        return times(argv[2], atoi(argv[3]));
     for (size_t i = 0; i < sizeof calls / sizeof *calls; i++)
         if (strcmp(calls[i].engine, argv[1]) == 0 && strcmp(calls[i].operation, argv[2]) == 0) {
             for (int repeats = atoi(argv[3]); repeats > 0; repeats--)

@@ -1,10 +1,12 @@
 """What the library costs: x86-64 instructions, counted under qemu on every machine, beside plain C with the same strict
-tests (plain.c) and, for code 4, Debian's libstreamvbyte, which tests nothing.  Prints Markdown.
+tests (plain.c) and, for code 4, Debian's libstreamvbyte, which tests nothing.  On an x86-64 machine also times, the
+library beside plain C in one process.  Prints Markdown.
 
     python3 bench/run.py [ARCHIVE]"""
 
 import itertools
 import os
+import platform
 import re
 import subprocess
 import sys
@@ -14,7 +16,8 @@ HERE = os.path.dirname(os.path.abspath(__file__))
 sys.path.insert(0, os.path.join(os.path.dirname(HERE), "tests", "outside"))
 import machine
 
-NUMBERS, REPEATS, PLACES = 1024, 4, (255, 511, 1023)
+NUMBERS, REPEATS, PLACES = 1024, 4, (0, 255, 511, 1023)
+TIMED = 200
 PLANS = ("1", "2", "3", "4", "5", "6", "17 1", "17 4", "18 1 1", "16 4")
 WIDTHS = ("small", "mixed", "wide")
 NAMES = {"1": "VByte", "2": "group of four", "3": "G8IU", "4": "Stream VByte", "5": "gamma", "6": "delta",
@@ -61,7 +64,15 @@ def measure(archive):
         return (often - never) / REPEATS
 
     with ThreadPool(2) as pool:
-        return dict(zip(cases, pool.map(one, cases)))
+        return dict(zip(cases, pool.map(one, cases))), program
+
+
+def times(program):
+    """{(operation, place, width, plan): nanoseconds of a call by the library and by plain C}, one after the other"""
+    cases = [(operation, place, width, plan) for plan, width in itertools.product(PLANS, WIDTHS)
+             for operation, place in [("read", 0)] + [("lookup", place) for place in PLACES]]
+    return {case: [float(x) for x in subprocess.run([program, "times", case[0], str(TIMED), str(case[1]), case[2]] + case[3].split(),
+                                                    stdout=subprocess.PIPE, text=True, check=True).stdout.split()] for case in cases}
 
 
 def row(*cells):
@@ -77,7 +88,7 @@ def table(head, rows):
 
 
 def main(archive):
-    cost = measure(archive)
+    cost, program = measure(archive)
 
     def per_number(engine, operation, width, plan):
         found = cost.get((engine, operation, 0, width, plan))
@@ -103,11 +114,26 @@ def main(archive):
               [(plan, NAMES[plan], width, per_number("library", operation, width, plan),
                 per_number("plain", operation, width, plan), ratio(operation, 0, width, plan),
                 per_number("streamvbyte", operation, width, plan)) for plan, width in columns])
-    print("### Lookup: instructions a call at places %d, %d and %d, and a number at the last\n" % PLACES)
+    print("### Lookup: instructions a call at places %s, a number at the last, and the ratios at the first and the last\n"
+          % ", ".join(map(str, PLACES)))
     first, *more = map(str, PLACES)
-    table(("plan", "", "numbers", "library: " + first, *more, "a number", "plain C: " + first, *more, "a number", "ratio"),
+    table(("plan", "", "numbers", "library: " + first, *more, "a number", "plain C: " + first, *more, "a number",
+           "ratio at " + first, "at " + more[-1]),
           [(plan, NAMES[plan], width, *grown("library", width, plan), *grown("plain", width, plan),
-            ratio("lookup", PLACES[-1], width, plan)) for plan, width in columns])
+            ratio("lookup", PLACES[0], width, plan), ratio("lookup", PLACES[-1], width, plan)) for plan, width in columns])
+    if platform.machine() == "x86_64":
+        took = times(program)
+
+        def beside(operation, place, width, plan):
+            library, plain = took[operation, place, width, plan]
+            return ["%.0f" % library, "%.0f" % plain, "%.2f" % (library / plain)]
+
+        print("### Times: nanoseconds a call, library and plain C in turns in one process, the best of 25 rounds\n")
+        last = PLACES[-1]
+        table(("plan", "", "numbers", "read: library", "plain C", "ratio", "lookup at 0: library", "plain C", "ratio",
+               "lookup at %d: library" % last, "plain C", "ratio"),
+              [(plan, NAMES[plan], width, *beside("read", 0, width, plan), *beside("lookup", 0, width, plan),
+                *beside("lookup", last, width, plan)) for plan, width in columns])
 
 
 if __name__ == "__main__":

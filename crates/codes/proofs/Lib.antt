@@ -1,4 +1,7 @@
--- Sums of looked-up numbers, and the six codes' laws in one place.
+-- The codes' laws in one place, and what each walk over units knows.
 pub mod Numbered
+pub mod Stretches
+pub mod Lookings
 pub mod Totals
-pub mod Walks
+pub mod Readings
+pub mod Seeks

@@ -1,18 +1,22 @@
--- Which code a number is, and that each of the six is lawful. Assumes nothing.
+-- Which code a number is, and that each code is lawful. Assumes nothing.
 use Prim.Native.Nat.{ℕ}
 use mathlib.Core.Path.{_≡_, refl}
+use mathlib.Core.Bool.{Bool, true, false, cond}
 use mathlib.Core.List.{List}
 use borrow.Author.Tests.{ne-eqb}
 use lib.Dec.{eqb}
 use Rattle.meaning.specs.Answer.{given}
+use Rattle.meaning.specs.Codes.{Code, codeOf, codeVByte, codeGroups, codeG8IU, codeStream, codeGamma, codeDelta}
+use Rattle.meaning.specs.Elias.{doneElias}
+use Rattle.meaning.specs.Places.{Spare}
 use Rattle.meaning.specs.Positions.{atByte}
+use Rattle.meaning.specs.declared.Position.{Position}
+use Rattle.meaning.proofs.Codes.{by-number, by-code, spare-always}
 use Rattle.meaning.proofs.Lawful.{Lawful}
-use Rattle.meaning.proofs.Tests.{by-test}
 use Rattle.vbyte.proofs.Laws.{lawful as vbyte}
 use Rattle.groups.proofs.Laws.{lawful-groups, lawful-stream}
 use Rattle.g8iu.proofs.Laws.{lawful as g8iu}
 use Rattle.elias.proofs.Laws.{lawful-gamma, lawful-delta}
-use Rattle.meaning.specs.Codes.{codeOf, codeVByte, codeGroups, codeG8IU, codeStream, codeGamma, codeDelta}
 
 module _ (c : ℕ) where
   pub code-1 : c ≡ 1 → codeOf c ≡ codeVByte
@@ -41,19 +45,20 @@ module _ (c : ℕ) where
 
   -- every other code than Stream VByte begins with its first byte or bit
   pub start-other : (body : List ℕ) (n : ℕ) → (c ≡ 4 → ⊥) → codeOf c .start body n ≡ given (atByte 0)
-  unfolding codeOf
   start-other body n h =
-      by-test (eqb c 1) (λ t. rw t) (λ a.
-      by-test (eqb c 2) (λ t. rw (a, t)) (λ b.
-      by-test (eqb c 3) (λ t. rw (a, b, t)) (λ d.
-      by-test (eqb c 5) (λ t. rw (a, b, d, ne-eqb c 4 h, t)) (λ t. rw (a, b, d, ne-eqb c 4 h, t)))))
+      by-number (λ d. d .start body n ≡ given (atByte 0)) c (λ e. refl) (λ e. refl) (λ e. refl) (λ e. absurd (h e)) (λ e. refl) refl
 
--- each of the six codes is lawful
+  -- gamma and delta leave nothing over but spare bits
+  pub done-other : (body : List ℕ) (p : Position) → (c ≡ 1 → ⊥) → (c ≡ 2 → ⊥) → (c ≡ 3 → ⊥) → (c ≡ 4 → ⊥) → codeOf c .done body p ≡ doneElias body p
+  done-other body p a b d e =
+      by-number (λ k. k .done body p ≡ doneElias body p) c (λ q. absurd (a q)) (λ q. absurd (b q)) (λ q. absurd (d q)) (λ q. absurd (e q)) (λ q. refl) refl
+
+  -- every other code than G8IU leaves nothing spare
+  pub spare-other : (before : List ℕ) → (c ≡ 3 → ⊥) → Spare (codeOf c .joins) before 0
+  spare-other before h =
+      let none = spare-always before in
+      by-number (λ d. Spare (d .joins) before 0) c (λ e. none) (λ e. none) (λ e. absurd (h e)) (λ e. none) (λ e. none) none
+
+-- each code is lawful
 pub laws : (c : ℕ) → Lawful (codeOf c)
-unfolding codeOf
-laws c =
-    by-test (eqb c 1) (λ t. rw t vbyte) (λ a.
-    by-test (eqb c 2) (λ t. rw (a, t) lawful-groups) (λ b.
-    by-test (eqb c 3) (λ t. rw (a, b, t) g8iu) (λ d.
-    by-test (eqb c 4) (λ t. rw (a, b, d, t) lawful-stream) (λ e.
-    by-test (eqb c 5) (λ t. rw (a, b, d, e, t) lawful-gamma) (λ f. rw (a, b, d, e, f) lawful-delta)))))
+laws c = by-code Lawful vbyte lawful-groups g8iu lawful-stream lawful-gamma lawful-delta c

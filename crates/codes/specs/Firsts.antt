@@ -25,4 +25,5 @@ pub record Firsts (at : ℕ → Answer ℕ) (k from : ℕ) (work work′ : List 
   pub most : r .count ≤ k
   pub are : (i : ℕ) → i < r .count → at i ≡ given (getD work′ (from + i) 0)
   pub stops : r .count < k → at (r .count) ≡ refused (r .refusal)
+  pub all : r .count ≡ k → r .refusal ≡ 0
   pub kept : take from work′ ≡ take from work

@@ -1,2 +1,3 @@
 pub mod Started
+pub mod Goes
 pub mod Firsts

@@ -6,6 +6,8 @@ use Rattle.codes.specs.declared.Started.{Started}
 use Rattle.codes.specs.declared.Started.the-variants as started
 use Rattle.codes.specs.declared.Total.{Total}
 use Rattle.codes.specs.declared.Total.the-variants as total
+use Rattle.codes.specs.declared.Run.{Run}
+use Rattle.codes.specs.declared.Run.the-variants as run
 
 abbrev pub startedSays : Started → Answer Position
 startedSays (started.At p) = given p
@@ -18,3 +20,7 @@ startRefusal (started.Refused e) = e
 abbrev pub totalSays : Total → Answer ℕ
 totalSays (total.Sum x) = given x
 totalSays (total.Refused e) = refused e
+
+abbrev pub runSays : Run → Answer ℕ
+runSays (run.At j) = given (j .number)
+runSays (run.Refused e) = refused e

@@ -1,17 +1,18 @@
 // What is done with a code, by its number in document 01.
 use crate::Started;
 use meaning::Bit;
+use meaning::FAULT;
 use meaning::Offset;
 use meaning::Place;
 use meaning::Position;
-use meaning::Reading;
+use meaning::Taken;
 use meaning::UnitRead;
 ghost use mathlib.Core.Path.{_≡_};
 ghost use Prim.Native.Nat.{_≤_};
-ghost use lib.ListN.{length};
-ghost use Rattle.meaning.specs.Codes.{codeOf, readCode};
-ghost use Rattle.meaning.specs.Limits.{mostBytes, mostNumbers};
-ghost use Rattle.meaning.specs.Places.{part, Source, Target, Wrote, Got, UnitIs};
+ghost use lib.ListN.{length, take};
+ghost use Rattle.meaning.specs.Codes.{codeOf};
+ghost use Rattle.meaning.specs.Limits.{mostBytes, unitPlaces};
+ghost use Rattle.meaning.specs.Places.{part, Source, Target, Wrote, UnitIs, Took, Spare};
 ghost use Rattle.codes.specs.Started.{startedSays};
 
 // Writes n numbers that stand in a slice from a place on, to an output from an offset on. Answers where their bytes end.
@@ -36,21 +37,6 @@ pub fn write_code(
     }
 }
 
-// Reads n numbers strictly into work from a place on.
-pub fn read_code(code: u8, body: &[u8], n: usize, work: &mut [u32], from: Place) -> Reading
-    requires { ⌜ Target (now body) (now work) (from .number) n ⌝ }
-    ensures { λ r. ⌜ Got (readCode (codeOf code) (now (body .entry)) n) (from .number) (now (work .entry)) (now (work .exit)) r ⌝ }
-{
-    match code {
-        1 => vbyte::read(body, n, work, from),
-        2 => groups::read_groups(body, n, work, from),
-        3 => g8iu::read(body, n, work, from),
-        4 => groups::read_stream(body, n, work, from),
-        5 => elias::read_gamma(body, n, work, from),
-        _ => elias::read_delta(body, n, work, from),
-    }
-}
-
 // Reads the unit at a position, where `left` numbers are still to come.
 pub fn unit_at(code: u8, body: &[u8], left: usize, at: Position) -> UnitRead
     requires { ⌜ length (now body) ≤ mostBytes ⌝ }
@@ -66,29 +52,89 @@ pub fn unit_at(code: u8, body: &[u8], left: usize, at: Position) -> UnitRead
     }
 }
 
+// Takes units from a position on into work from a place on, as far as they are plain and there is room for their numbers; perhaps none.
+pub fn take_units(
+    code: u8,
+    body: &[u8],
+    left: usize,
+    at: Position,
+    work: &mut [u32],
+    from: Place,
+    room: usize,
+) -> Taken
+    requires { ⌜ Target (now body) (now work) (from .number) room ⌝ }
+    ensures { λ r. ⌜ Took (codeOf code) (now (body .entry)) left at room (from .number) (now (work .entry)) (now (work .exit)) r ⌝ }
+{
+    match code {
+        1 => vbyte::take(body, left, at, work, from, room),
+        2 => groups::take_groups(body, left, at, work, from, room),
+        3 => g8iu::take(body, left, at, work, from, room),
+        4 => groups::take_stream(body, left, at, work, from, room),
+        5 => elias::take_gamma(body, left, at, work, from, room),
+        _ => elias::take_delta(body, left, at, work, from, room),
+    }
+}
+
 // Where the first unit of n numbers begins. Stream VByte's control bytes must fit the body.
 pub fn start_at(code: u8, body: &[u8], n: usize) -> Started
-    requires { ⌜ n ≤ mostNumbers ⌝ }
     ensures { λ r. ⌜ startedSays r ≡ codeOf code .start (now (body .entry)) n ⌝ }
 {
     let zero = Offset { byte: 0 };
-    let first = Bit { index: 0 };
+    let bit = Bit { index: 0 };
     if code == 4 {
-        let controls = (n + 3) / 4;
+        let controls = n / 4 + (n % 4 + 3) / 4;
         if body.len() < controls {
-            return Started::Refused(9);
+            return Started::Refused(FAULT);
         }
         let tail = Offset { byte: controls };
         return Started::At(Position {
             head: zero,
             tail,
-            bit: first,
+            bit,
         });
     }
     let tail = zero;
     Started::At(Position {
         head: zero,
         tail,
-        bit: first,
+        bit,
     })
+}
+
+// What a unit of the first `count` numbers left spare: in G8IU alone another number could have followed them.
+pub fn spare_after(code: u8, numbers: [u32; 8], count: usize) -> usize
+    requires { ⌜ count ≤ unitPlaces ⌝ }
+    ensures { λ r. ⌜ Spare (codeOf code .joins) (take count numbers) r ⌝ }
+{
+    if code == 3 {
+        return g8iu::spare_after(numbers, count);
+    }
+    0
+}
+
+// Whether nothing is left over at a position.
+pub fn done_at(code: u8, body: &[u8], at: Position) -> bool
+    requires { ⌜ length (now body) ≤ mostBytes ⌝ }
+    ensures { λ r. ⌜ r ≡ codeOf code .done (now (body .entry)) at ⌝ }
+{
+    let len = body.len();
+    match code {
+        1 => at.head.byte == len,
+        2 => at.head.byte == len,
+        3 => at.head.byte == len,
+        4 => at.tail.byte == len,
+        _ => elias::done(body, at),
+    }
+}
+
+// How many numbers a unit may hold: a lookup leaves so much room, so that the unit that holds its place can be taken.
+pub fn unit_most(code: u8) -> usize
+    ensures { λ r. ⌜ (1 ≤ r) × (r ≤ unitPlaces) ⌝ }
+{
+    match code {
+        2 => 4,
+        3 => 8,
+        4 => 4,
+        _ => 1,
+    }
 }

@@ -1,19 +1,29 @@
-// The six codes behind one name for each thing that is done with a code: the one place that lists them. Lookups walk the units of any code.
+// The codes behind one name for each thing that is done with a code: the one place that lists them. Each walk over units stands here once, for every
+// code: strict reading, and what lookups ask.
 pub mod dispatch;
-pub mod walk;
+pub mod looking;
+pub mod reading;
+pub mod stretch;
 
-pub use dispatch::read_code;
-pub use dispatch::start_at;
-pub use dispatch::unit_at;
 pub use dispatch::write_code;
+pub use looking::firsts_code;
+pub use looking::lookup_code;
+pub use looking::seek_code;
+pub use looking::total_code;
+use meaning::Place;
 use meaning::Position;
-pub use walk::firsts_code;
-pub use walk::lookup_code;
-pub use walk::total_code;
+use meaning::Taken;
+pub use reading::read_code;
 
 // Where the first unit begins, or the refusal.
 pub enum Started {
     At(Position),
+    Refused(u8),
+}
+
+// Units passed, one at least, or the refusal of the first.
+pub enum Went {
+    On(Taken),
     Refused(u8),
 }
 
@@ -27,4 +37,10 @@ pub enum Total {
 pub struct First {
     pub count: usize,
     pub refusal: u8,
+}
+
+// A run by its place among the runs, or the refusal.
+pub enum Run {
+    At(Place),
+    Refused(u8),
 }

@@ -78,7 +78,7 @@ module _ (sheet : List ℕ) (bytes : Below 256 sheet) (work : ℕ) (passes : che
         let (ys, er, ek) = bind-given (read (planOf (c .plan)) (c .body) (c .count)) _ (numbersFor c) (numbers-read sheet bytes work passes k there) in
         let (o, g) = need-given (ofKind (c .kind) ys) fault (given ys) (numbersFor c) ek in
         let same : ys ≡ numbersFor c = cc in
-        let (w, m, s) = back (λ c h. laws c) (planOf (c .plan)) (c .body) (c .count) (numbersFor c) (body-bytes sheet bytes work passes k there) (er ∙ g) in
+        let (w, m, s) = back laws (planOf (c .plan)) (c .body) (c .count) (numbersFor c) (body-bytes sheet bytes work passes k there) (er ∙ g) in
         record {
           kind = holds .kind;
           few = holds .count;

@@ -43,7 +43,7 @@ AllWritable ls = (k : ℕ) → k < length ls → Writable (getD ls k blankListed
 module _ (l : Listed) (w : Writable l) where
   body-short : length (bodyOf l) ≤ 72 * mostNumbers + 56
   body-short =
-      omega (arith, most (λ c i. laws c) (planOf (l .plan)) (l .numbers) (w .small) (omega (arith, w .few)), plan-worst (l .plan) (length (l .numbers)), w .few)
+      omega (arith, most laws (planOf (l .plan)) (l .numbers) (w .small) (omega (arith, w .few)), plan-worst laws (l .plan) (length (l .numbers)), w .few)
 
   pub fits : Fits l
   fits = record { planned = judged-long l tt (w .judged); few = omega (arith, w .few); short = omega (arith, body-short) }
@@ -51,7 +51,7 @@ module _ (l : Listed) (w : Writable l) where
   pub column-back : readColumn (columnFor l) ≡ given (l .numbers)
   unfolding readColumn
   column-back =
-      rw (forth-plan (λ c i. laws c) (l .plan) (l .kind) (l .numbers) (plan-passed (l .kind) (l .plan) tt (w .judged) .1) (w .risen) (w .small) (w .few), w .risen)
+      rw (forth-plan laws (l .plan) (l .kind) (l .numbers) (plan-passed (l .kind) (l .plan) tt (w .judged) .1) (w .risen) (w .small) (w .few), w .risen)
 
 -- ---- of columns that were made of others
 module _ {A B : Type 0} (f : A → B) where

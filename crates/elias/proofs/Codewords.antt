@@ -7,6 +7,7 @@ use lib.Seq.{drop-at}
 use Rattle.meaning.specs.Answer.{Answer, given}
 use Rattle.meaning.specs.Limits.{numberLimit}
 use Rattle.meaning.specs.Places.{Below}
+use Rattle.meaning.proofs.Answers.{Faulty}
 
 -- v was read from k bits at the start of l: they are its codeword
 pub record Back (most : ℕ) (bits : ℕ → List ℕ) (l : List ℕ) (v k : ℕ) : Type 0 where
@@ -18,6 +19,8 @@ pub record Back (most : ℕ) (bits : ℕ → List ℕ) (l : List ℕ) (v k : ℕ
 pub record Word (m : ℕ) (bits : ℕ → List ℕ) (word : List ℕ → Answer (ℕ × ℕ)) : Type 0 where
   pub forth : (v : ℕ) (rest : List ℕ) → 0 < v → v ≤ numberLimit → word (bits v ++ rest) ≡ given (v, length (bits v))
   pub back : (l : List ℕ) (t : ℕ × ℕ) → Below 2 l → word l ≡ given t → Back numberLimit bits l (t .0) (t .1)
+  -- whatever a codeword is refused by is a fault
+  pub faulty : (l : List ℕ) → Faulty (word l)
   -- a codeword takes at most m bits, each 0 or 1
   pub most : (v : ℕ) → 0 < v → v ≤ numberLimit → length (bits v) ≤ m
   pub small : (v : ℕ) → Below 2 (bits v)

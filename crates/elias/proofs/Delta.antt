@@ -13,9 +13,9 @@ use Rattle.meaning.specs.Bits.{bitsHigh, numberHigh, bitLength}
 use Rattle.meaning.specs.Elias.{gammaBits, gammaIn, deltaBits, restIn, deltaWord}
 use Rattle.meaning.specs.Limits.{fault, numberLimit}
 use Rattle.meaning.specs.Places.{Below}
-use Rattle.meaning.proofs.Answers.{bind-given, need-given}
+use Rattle.meaning.proofs.Answers.{Faulty, bind-given, need-given, bind-faulty, need-faulty}
 use Rattle.meaning.proofs.Bounds.{below-append, below-take, below-drop}
-use Rattle.elias.proofs.Gamma.{gamma-forth, gamma-back, gamma-bits, gamma-length}
+use Rattle.elias.proofs.Gamma.{gamma-forth, gamma-back, gamma-faulty, gamma-bits, gamma-length}
 use Rattle.elias.proofs.Length.{Long, long-of, long-within, one-again, one-long, one-low}
 use Rattle.elias.proofs.Numbers.{high-length, high-bits}
 use Rattle.elias.proofs.Codewords.{Word, Back, goes-on}
@@ -26,13 +26,19 @@ module _ (n : ℕ) (l : List ℕ) where
   unfolding restIn
   rest-short h = rw (lt-leb n (length l) h)
 
-  pub rest-large : n ≤ length l → numberLimit < numberHigh 1 (take n l) → restIn n l ≡ refused fault
-  unfolding restIn
-  rest-large h o = rw (le-leb n (length l) h, lt-leb (numberHigh 1 (take n l)) numberLimit o)
-
   pub rest-given : n ≤ length l → numberHigh 1 (take n l) ≤ numberLimit → restIn n l ≡ given (numberHigh 1 (take n l))
   unfolding restIn
   rest-given h o = rw (le-leb n (length l) h, le-leb (numberHigh 1 (take n l)) numberLimit o)
+
+  rest-faulty : Faulty (restIn n l)
+  unfolding restIn
+  rest-faulty = need-faulty (leb n (length l)) _ (need-faulty (leb (numberHigh 1 (take n l)) numberLimit) _ tt)
+
+delta-faulty : (l : List ℕ) → Faulty (deltaWord l)
+unfolding deltaWord
+delta-faulty l =
+    bind-faulty (gammaIn 5 33 l) _ (gamma-faulty 5 33 l)
+    (λ s. bind-faulty (restIn (s .0 - 1) (drop (s .1) l)) _ (rest-faulty (s .0 - 1) (drop (s .1) l)) (λ v. tt))
 
 -- ---- the codeword of a number of m + 1 digits
 delta-is : (m v : ℕ) → Long m v → deltaBits v ≡ gammaBits (suc m) ++ bitsHigh m v
@@ -43,7 +49,9 @@ delta-is m v l = rw (l .is) (ap (λ (k : ℕ). gammaBits (suc m) ++ bitsHigh k v
     less n = omega arith
 
 pub delta-length : (m v : ℕ) → Long m v → length (deltaBits v) ≡ length (gammaBits (suc m)) + m
-delta-length m v l = ap length (delta-is m v l) ∙ length-append (gammaBits (suc m)) (bitsHigh m v) ∙ ap (λ (k : ℕ). length (gammaBits (suc m)) + k) (high-length m v)
+delta-length m v l =
+    ap length (delta-is m v l) ∙ length-append (gammaBits (suc m)) (bitsHigh m v)
+    ∙ ap (λ (k : ℕ). length (gammaBits (suc m)) + k) (high-length m v)
 
 delta-bits : (v : ℕ) → Below 2 (deltaBits v)
 unfolding deltaBits
@@ -77,8 +85,8 @@ rest-back n l v e =
     (leb-true n (length l) p, is, omega (arith, leb-true (numberHigh 1 (take n l)) numberLimit q))
 
 -- a length k + 1 in gamma, and k bits after it
-parts-back : (l r : List ℕ) (n k v : ℕ) → l ≡ gammaBits (suc k) ++ r → n ≡ length (gammaBits (suc k)) → k ≤ 32 → Below 2 r → k ≤ length r → numberHigh 1 (take k r) ≡ v
-    → v ≤ numberLimit → Back numberLimit deltaBits l v (n + k)
+parts-back : (l r : List ℕ) (n k v : ℕ) → l ≡ gammaBits (suc k) ++ r → n ≡ length (gammaBits (suc k)) → k ≤ 32 → Below 2 r → k ≤ length r
+    → numberHigh 1 (take k r) ≡ v → v ≤ numberLimit → Back numberLimit deltaBits l v (n + k)
 parts-back l r n k v e hn hk b h is o =
     let t = take k r in
     let len : length t ≡ k = length-take-le k r h in
@@ -118,4 +126,4 @@ delta-most v h k =
     omega (arith, delta-length m v l, gamma-length j (suc m) i, l .short, long-within j 5 (suc m) (i .least) (omega (arith, l .short)))
 
 pub word-delta : Word 43 deltaBits deltaWord
-word-delta = record { forth = delta-forth; back = delta-back; most = delta-most; small = delta-bits }
+word-delta = record { forth = delta-forth; back = delta-back; faulty = delta-faulty; most = delta-most; small = delta-bits }

@@ -14,7 +14,7 @@ use Rattle.meaning.specs.Bits.{bitsHigh, numberHigh, zerosFirst, bitLength}
 use Rattle.meaning.specs.Elias.{gammaBits, gammaIn, gammaWord}
 use Rattle.meaning.specs.Limits.{fault, numberLimit}
 use Rattle.meaning.specs.Places.{Below}
-use Rattle.meaning.proofs.Answers.{need-given}
+use Rattle.meaning.proofs.Answers.{Faulty, need-given, need-faulty}
 use Rattle.meaning.proofs.Bounds.{below-append, below-zeros, below-take, below-right}
 use Rattle.elias.proofs.Length.{Long, long-of, long-within, first-one, one-again, one-long, one-low}
 use Rattle.elias.proofs.Numbers.{high-length, high-bits}
@@ -35,14 +35,16 @@ module _ (z most : ℕ) (l : List ℕ) where
   unfolding gammaIn
   in-short h k = rw (le-leb (zerosFirst l) z h, lt-leb (2 * zerosFirst l + 1) (length l) k)
 
-  pub in-large : zerosFirst l ≤ z → 2 * zerosFirst l + 1 ≤ length l → most < behind (zerosFirst l) l → gammaIn z most l ≡ refused fault
-  unfolding gammaIn
-  in-large h k o = rw (le-leb (zerosFirst l) z h, le-leb (2 * zerosFirst l + 1) (length l) k, lt-leb (behind (zerosFirst l) l) most o)
-
   pub in-given : zerosFirst l ≤ z → 2 * zerosFirst l + 1 ≤ length l → behind (zerosFirst l) l ≤ most
       → gammaIn z most l ≡ given (behind (zerosFirst l) l, 2 * zerosFirst l + 1)
   unfolding gammaIn
   in-given h k o = rw (le-leb (zerosFirst l) z h, le-leb (2 * zerosFirst l + 1) (length l) k, le-leb (behind (zerosFirst l) l) most o)
+
+  pub gamma-faulty : Faulty (gammaIn z most l)
+  unfolding gammaIn
+  gamma-faulty =
+      need-faulty (leb (zerosFirst l) z) _ (need-faulty (leb (2 * zerosFirst l + 1) (length l)) _
+      (need-faulty (leb (behind (zerosFirst l) l) most) _ tt))
 
 -- ---- the codeword of a number of m + 1 digits
 abbrev form : ℕ → List ℕ → List ℕ
@@ -63,7 +65,9 @@ gamma-length m v l = ap length (gamma-is m v l) ∙ form-length m (bitsHigh m v)
 
 pub gamma-bits : (v : ℕ) → Below 2 (gammaBits v)
 unfolding gammaBits
-gamma-bits v = below-append 2 (replicate (bitLength v - 1) 0) (bitsHigh (bitLength v) v) (below-zeros 2 (bitLength v - 1) (omega arith)) (high-bits (bitLength v) v)
+gamma-bits v =
+    below-append 2 (replicate (bitLength v - 1) 0) (bitsHigh (bitLength v) v)
+    (below-zeros 2 (bitLength v - 1) (omega arith)) (high-bits (bitLength v) v)
 
 -- what stands behind the zeros
 form-behind : (m : ℕ) (t : List ℕ) → behind m (form m t) ≡ numberHigh 1 (take m t)
@@ -71,7 +75,8 @@ unfolding numberHigh
 form-behind m t = rw (drop-at (replicate m 0) (1 ∷ t) m (length-replicate m 0), add-one m)
 
 -- ---- written and read
-form-forth : (z most m v : ℕ) (t rest : List ℕ) → m ≤ z → length t ≡ m → numberHigh 1 t ≡ v → v ≤ most → gammaIn z most (form m (t ++ rest)) ≡ given (v, 2 * m + 1)
+form-forth : (z most m v : ℕ) (t rest : List ℕ) → m ≤ z → length t ≡ m → numberHigh 1 t ≡ v → v ≤ most
+    → gammaIn z most (form m (t ++ rest)) ≡ given (v, 2 * m + 1)
 form-forth z most m v t rest hz n e k =
     let g = form m (t ++ rest) in
     let zs : zerosFirst g ≡ m = zeros-then m (t ++ rest) in
@@ -79,7 +84,8 @@ form-forth z most m v t rest hz n e k =
     in-given z most g (omega arith) (omega (arith, form-length m (t ++ rest), length-append t rest)) (omega arith)
     ∙ ap₂ (λ (a i : ℕ). given (a, 2 * i + 1)) is zs
 
-pub gamma-forth : (z most v : ℕ) (rest : List ℕ) → z ≤ 32 → most < 2 ^ suc z → 0 < v → v ≤ most → gammaIn z most (gammaBits v ++ rest) ≡ given (v, length (gammaBits v))
+pub gamma-forth : (z most v : ℕ) (rest : List ℕ) → z ≤ 32 → most < 2 ^ suc z → 0 < v → v ≤ most
+    → gammaIn z most (gammaBits v ++ rest) ≡ given (v, length (gammaBits v))
 gamma-forth z most v rest hz hm h k =
     let (m, l) = long-of v h (omega (arith, pow-mono {i = suc z} {j = 33} (omega arith))) in
     ap (gammaIn z most) (ap (λ (g : List ℕ). g ++ rest) (gamma-is m v l) ∙ append-assoc (replicate m 0) (1 ∷ bitsHigh m v) rest)
@@ -128,6 +134,7 @@ word-gamma =
     record {
       forth = λ v rest h k. gamma-forth 32 numberLimit v rest (omega arith) (omega arith) h k;
       back = λ l t b e. gamma-back 32 numberLimit l t (omega arith) b e;
+      faulty = λ l. gamma-faulty 32 numberLimit l;
       most = λ v h k. let (m, l) = long-of v h (omega arith) in omega (arith, gamma-length m v l, l .short);
       small = gamma-bits;
     }

@@ -3,7 +3,7 @@ use Prim.Native.Nat.{ℕ, suc, _+_, _-_, _*_, _/_, _≤_, _<_}
 use mathlib.Core.Path.{_≡_, refl, sym, ap, _∙_, subst}
 use mathlib.Core.Bool.{true}
 use mathlib.Core.List.{List, [], _∷_, _++_, append-assoc}
-use native.Mathlib.Nat.{mul-suc}
+use native.Mathlib.Nat.{mul-suc, mul-le-mul-left, mul-le-mul-right}
 use native.Mathlib.Omega.{arith}
 use borrow.Author.Tests.{lt-ltb, ltb-true}
 use lib.Dec.{ltb, eqb}
@@ -18,8 +18,9 @@ use Rattle.meaning.specs.Lists.{all, joined}
 use Rattle.meaning.specs.Places.{Below}
 use Rattle.meaning.specs.Positions.{atBit}
 use Rattle.meaning.specs.declared.Position.{Position}
-use Rattle.meaning.proofs.Answers.{bind-given}
+use Rattle.meaning.proofs.Answers.{Faulty, bind-given, bind-faulty}
 use Rattle.meaning.proofs.Bounds.{below-nil, below-cons, below-append, below-drop}
+use Rattle.meaning.proofs.Codes.{spare-always}
 use Rattle.meaning.proofs.Lawful.{Lawful, Read}
 use Rattle.meaning.proofs.Tests.{both-true, true-both}
 use Rattle.meaning.proofs.Units.{Good, Whole, read-many, read-written, read-holds}
@@ -79,7 +80,8 @@ module _ (m : ℕ) (bits : ℕ → List ℕ) (word : List ℕ → Answer (ℕ ×
       record { spared = length l; few = ltb-true (length l) 8 q; are = zeros-all l r; small = below-nil numberLimit (omega arith) }
 
   heads : (body before : List ℕ) (p : Position) (x : ℕ) (xs : List ℕ) → HoldsAt bits body before p (x ∷ xs)
-      → (u : Position × List ℕ) × (unitElias word body (suc (length xs)) p ≡ given u) × (always before (u .1) ≡ true) × ((zs : List ℕ) × (u .1 ++ zs ≡ x ∷ xs) × HoldsAt bits body (u .1) (u .0) zs)
+      → (u : Position × List ℕ) × (unitElias word body (suc (length xs)) p ≡ given u) × (always before (u .1) ≡ true)
+      × ((zs : List ℕ) × (u .1 ++ zs ≡ x ∷ xs) × HoldsAt bits body (u .1) (u .0) zs)
   unfolding unitElias joined
   heads body before p x xs h =
       let at = p .bit .index in
@@ -117,7 +119,8 @@ module _ (m : ℕ) (bits : ℕ → List ℕ) (word : List ℕ → Answer (ℕ ×
       (record {
         spared = h′ .spared;
         few = h′ .few;
-        are = back .is ∙ ap (λ (l : List ℕ). bits v ++ l) (drop-drop k at (bitsOf body) ∙ h′ .are) ∙ sym (append-assoc (bits v) (words bits zs) (replicate (h′ .spared) 0))
+        are = back .is ∙ ap (λ (l : List ℕ). bits v ++ l) (drop-drop k at (bitsOf body) ∙ h′ .are)
+            ∙ sym (append-assoc (bits v) (words bits zs) (replicate (h′ .spared) 0))
             ∙ ap (λ (x : ℕ). (bits x ++ words bits zs) ++ replicate (h′ .spared) 0) (sym more);
         small = below-cons numberLimit (v - 1) zs (omega (arith, back .some, back .few)) (h′ .small);
       })
@@ -178,13 +181,29 @@ module _ (m : ℕ) (bits : ℕ → List ℕ) (word : List ℕ → Answer (ℕ ×
         small = h .small;
       }
 
-  lawful : Lawful code
-  lawful = record { good = λ body b. good body; forth = forth; back = back; most = most; bytes = λ xs h. bytes xs }
+  faulty : (body : List ℕ) (left : ℕ) (p : Position) → Faulty (unitElias word body left p)
+  unfolding unitElias
+  faulty body left p = let l = drop (p .bit .index) (bitsOf body) in bind-faulty (word l) _ (w .faulty l) (λ t. tt)
+
+  lawful : m ≤ 65 → Lawful code
+  lawful few =
+      record {
+        good = λ body b. good body;
+        begins = λ body n. tt;
+        faulty = faulty;
+        fresh = spare-always [];
+        forth = forth;
+        back = back;
+        most = most;
+        bytes = λ xs h. bytes xs;
+        grows = λ k n h. omega (arith, mul-le-mul-left m h);
+        nine = λ n. omega (arith, mul-le-mul-right n few);
+      }
 
 pub lawful-gamma : Lawful codeGamma
 unfolding writeGamma
-lawful-gamma = lawful 65 gammaBits gammaWord word-gamma
+lawful-gamma = lawful 65 gammaBits gammaWord word-gamma (omega arith)
 
 pub lawful-delta : Lawful codeDelta
 unfolding writeDelta
-lawful-delta = lawful 43 deltaBits deltaWord word-delta
+lawful-delta = lawful 43 deltaBits deltaWord word-delta (omega arith)

@@ -69,15 +69,9 @@ module _ (t : List ℕ) (bits : Below 2 t) (few : length t ≤ 32) where
       let s = number-small t bits in
       long (length t) (numberHigh 1 t) few (omega arith) (rw (pow-suc 2 (length t)) (omega arith))
 
-  -- its lower bits are those, its bits a one and those
+  -- its lower bits are those
   pub one-low : bitsHigh (length t) (numberHigh 1 t) ≡ t
   one-low = high-number 1 t bits
-
-  pub one-high : bitsHigh (suc (length t)) (numberHigh 1 t) ≡ 1 ∷ t
-  unfolding bitsHigh
-  one-high =
-      let q : numberHigh 1 t / 2 ^ length t ≡ 1 = ap (λ (n : ℕ). n / 2 ^ length t) (number-after 1 t) ∙ high 1 (length t) (number-small t bits) in
-      rw (q, one-low)
 
 -- ---- and a number of m + 1 digits is such a one
 module _ (m v : ℕ) (least : 2 ^ m ≤ v) (below : v < 2 ^ suc m) where

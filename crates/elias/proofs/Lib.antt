@@ -15,7 +15,7 @@ pub mod Windows
 pub mod Seen
 pub mod Forms
 pub mod Looks
-pub mod Turns
+pub mod Taking
 -- writing
 pub mod Pushing
 pub mod Writing

@@ -7,7 +7,7 @@ use mathlib.Core.Bool.{Bool, true, false, _&&_}
 use mathlib.Core.List.{List, [], _∷_}
 use borrow.Author.Tests.{le-leb, lt-ltb, le-ltb, ne-eqb}
 use lib.Count.{leadingZeros}
-use lib.Dec.{leb, eqb, eqb·zero-suc}
+use lib.Dec.{leb, ltb, eqb, eqb·zero-suc}
 use lib.ListN.{length, take, drop, replicate}
 use lib.Pow.{pow-pos, pow-mono}
 use lib.Seq.{take-take, take-add, drop-drop, length-take-le}
@@ -17,7 +17,7 @@ use Rattle.meaning.specs.Elias.{gammaIn, gammaWord, restIn, deltaWord, doneElia
 use Rattle.meaning.specs.Limits.{fault, numberLimit}
 use Rattle.meaning.specs.Lists.{all}
 use Rattle.meaning.specs.Places.{Below}
-use Rattle.meaning.specs.Positions.{atBit}
+use Rattle.meaning.specs.declared.Position.{Position}
 use Rattle.meaning.proofs.Bounds.{below-take}
 use Rattle.meaning.proofs.Tests.{by-order}
 use Rattle.elias.specs.Padded.{padded}
@@ -140,15 +140,24 @@ all-padded zero (x ∷ l) h = absurd (omega arith)
 all-padded (suc n) [] h = all-padded n [] (omega arith)
 all-padded (suc n) (x ∷ l) h = ap (λ (b : Bool). eqb 0 x && b) (all-padded n l (omega arith))
 
-module _ (p : ℕ) (body : List ℕ) where
+module _ (body : List ℕ) (p : Position) where
   abbrev left : List ℕ
-  left = drop p (bitsOf body)
+  left = drop (p .bit .index) (bitsOf body)
 
-  pub seen-more : 7 < length left → false ≡ doneElias body (atBit p)
+  pub seen-none : length left ≡ 0 → true ≡ doneElias body p
+  unfolding doneElias all
+  seen-none h = none left h
+    where
+      none : (l : List ℕ) → length l ≡ 0 → true ≡ (ltb (length l) 8 && all (eqb 0) l)
+      none [] e = refl
+      none (x ∷ l) e = absurd (omega arith)
+
+  pub seen-more : 7 < length left → false ≡ doneElias body p
   unfolding doneElias
   seen-more h = rw (le-ltb (length left) 8 h)
 
-  pub seen-done : (s v : ℕ) → take 57 (bitsHigh 64 s) ≡ padded 57 left → length left ≤ 7 → v ≡ numberHigh 0 (take 7 (bitsHigh 64 s)) → eqb v 0 ≡ doneElias body (atBit p)
+  pub seen-done : (s v : ℕ) → take 57 (bitsHigh 64 s) ≡ padded 57 left → length left ≤ 7 → v ≡ numberHigh 0 (take 7 (bitsHigh 64 s))
+      → eqb v 0 ≡ doneElias body p
   unfolding doneElias
   seen-done s v seen h e =
       let seven : take 7 (bitsHigh 64 s) ≡ padded 7 left = sym (take-take 7 57 (bitsHigh 64 s) (omega arith)) ∙ ap (take 7) seen ∙ padded-take 7 50 left in

@@ -22,12 +22,6 @@ unfolding zerosFirst
 zeros-then zero r = refl
 zeros-then (suc k) r = ap suc (zeros-then k r)
 
-pub zeros-within : (l : List ℕ) → zerosFirst l ≤ length l
-unfolding zerosFirst
-zeros-within [] = omega arith
-zeros-within (zero ∷ bs) = omega (arith, zeros-within bs)
-zeros-within (suc b ∷ bs) = omega arith
-
 -- the zeros, and what follows them: a one
 pub record Led (l : List ℕ) : Type 0 where
   pub after : List ℕ
@@ -44,7 +38,8 @@ led (suc b ∷ bs) h k =
     record { after = bs; is = ap (λ (x : ℕ). x ∷ bs) e }
 
 -- two lists that begin alike have as many zeros first, where what stands behind them is seen
-pub zeros-agree : (n : ℕ) (k l : List ℕ) → padded n k ≡ padded n l → zerosFirst k < n → zerosFirst k < length k → (zerosFirst l ≡ zerosFirst k) × (zerosFirst k < length l)
+pub zeros-agree : (n : ℕ) (k l : List ℕ) → padded n k ≡ padded n l → zerosFirst k < n → zerosFirst k < length k
+    → (zerosFirst l ≡ zerosFirst k) × (zerosFirst k < length l)
 unfolding zerosFirst padded
 zeros-agree zero k l e h m = absurd (omega arith)
 zeros-agree (suc n) [] l e h m = absurd (omega arith)

@@ -2,4 +2,4 @@
 pub mod Padded
 pub mod Says
 pub mod Carry
-pub mod Reached
+pub mod Seen

@@ -14,11 +14,6 @@ abbrev pub wordSays : Codeword → Answer (ℕ × ℕ)
 wordSays (Value v size) = given (v, size)
 wordSays (Refused e) = refused e
 
--- the number of its refusal; accepted is number 0
-abbrev pub wordRefusal : Codeword → ℕ
-wordRefusal (Value v size) = 0
-wordRefusal (Refused e) = e
-
 -- v's codeword, how a codeword is read, and the code
 abbrev pub bitsOfWord : Form → ℕ → List ℕ
 bitsOfWord Gamma v = gammaBits v

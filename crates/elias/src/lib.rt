@@ -4,27 +4,31 @@ mod inside;
 mod output;
 mod word;
 
-use crate::inside::words_inside;
+use crate::input::peek;
+use crate::input::top;
+use crate::inside::quick_word;
 use crate::output::Pending;
 use crate::output::finish;
 use crate::output::push_word;
 use crate::word::Codeword;
 use crate::word::Form;
-use crate::word::done;
-use crate::word::refusal_of;
+use crate::word::from_bit;
 use crate::word::word_at;
-use meaning::Bit;
+use leaves::lesser;
+use leaves::taken;
 use meaning::Offset;
 use meaning::Place;
 use meaning::Position;
-use meaning::Reading;
+use meaning::Taken;
 use meaning::Unit;
 use meaning::UnitRead;
+ghost use mathlib.Core.Path.{_≡_};
 ghost use Prim.Native.Nat.{_≤_};
 ghost use lib.ListN.{length};
-ghost use Rattle.meaning.specs.Codes.{codeGamma, codeDelta, readCode};
+ghost use Rattle.meaning.specs.Codes.{codeGamma, codeDelta};
+ghost use Rattle.meaning.specs.Elias.{doneElias};
 ghost use Rattle.meaning.specs.Limits.{mostBytes};
-ghost use Rattle.meaning.specs.Places.{part, Source, Wrote, UnitIs, Target, Got};
+ghost use Rattle.meaning.specs.Places.{part, Source, Wrote, UnitIs, Target, Took};
 ghost use Rattle.elias.specs.Says.{codeWith};
 
 // The codeword at a position, by its form.
@@ -35,46 +39,49 @@ fn unit(body: &[u8], at: Position, form: Form) -> UnitRead
     let mut numbers = [0u32; 8];
     let p = at.bit.index;
     let w = word_at(body, p, form);
-    let Codeword::Value(v, size) = w else {
-        return UnitRead {
-            unit: Unit::Refused(refusal_of(w)),
+    match w {
+        Codeword::Value(v, size) => {
+            numbers[0] = (v - 1) as u32;
+            let next = from_bit(p + size);
+            UnitRead {
+                unit: Unit::Next(next, 1),
+                numbers,
+            }
+        }
+        Codeword::Refused(e) => UnitRead {
+            unit: Unit::Refused(e),
             numbers,
-        };
-    };
-    numbers[0] = (v - 1) as u32;
-    let next = Position {
-        head: Offset { byte: 0 },
-        tail: Offset { byte: 0 },
-        bit: Bit { index: p + size },
-    };
-    UnitRead {
-        unit: Unit::Next(next, 1),
-        numbers,
+        },
     }
 }
 
-// Reads n codewords into work from a place on, and sees that nothing is left over.
-fn read(body: &[u8], n: usize, work: &mut [u32], from: Place, form: Form) -> Reading
-    requires { ⌜ Target (now body) (now work) (from .number) n ⌝ }
-    ensures { λ r. ⌜ Got (readCode (codeWith form) (now (body .entry)) n) (from .number) (now (work .entry)) (now (work .exit)) r ⌝ }
+// Takes codewords from a position on, into work from a place on, and stops at one that would be refused. The compiler makes a loop for each form.
+fn take(
+    body: &[u8],
+    left: usize,
+    at: Position,
+    work: &mut [u32],
+    from: Place,
+    room: usize,
+    form: Form,
+) -> Taken
+    requires { ⌜ Target (now body) (now work) (from .number) room ⌝ }
+    ensures { λ r. ⌜ Took (codeWith form) (now (body .entry)) left at room (from .number) (now (work .entry)) (now (work .exit)) r ⌝ }
 {
     let first = from.number;
-    let reached = words_inside(body, n, work, first, form);
-    let mut p = reached.bit;
-    let mut i = reached.numbers;
-    while i < n {
-        let w = word_at(body, p, form);
+    let most = lesser(left, room);
+    let mut p = at.bit.index;
+    let mut i: usize = 0;
+    while i < most {
+        let w = quick_word(body, p, form);
         let Codeword::Value(v, size) = w else {
-            return Reading::Refused(refusal_of(w));
+            return taken(at, i, i, 0, from_bit(p));
         };
         work[first + i] = (v - 1) as u32;
         p += size;
         i += 1;
     }
-    if done(body, p) {
-        return Reading::Whole(n);
-    }
-    Reading::Refused(9)
+    taken(at, i, i, 0, from_bit(p))
 }
 
 // Writes the codewords of n numbers from a place of a list on, from an offset of an output on.
@@ -130,18 +137,48 @@ pub fn unit_delta(body: &[u8], left: usize, at: Position) -> UnitRead
     unit(body, at, Form::Delta)
 }
 
-// Reads n numbers in gamma from a body into work from a place on.
-pub fn read_gamma(body: &[u8], n: usize, work: &mut [u32], from: Place) -> Reading
-    requires { ⌜ Target (now body) (now work) (from .number) n ⌝ }
-    ensures { λ r. ⌜ Got (readCode codeGamma (now (body .entry)) n) (from .number) (now (work .entry)) (now (work .exit)) r ⌝ }
+// Takes numbers in gamma from a position on into work from a place on.
+pub fn take_gamma(
+    body: &[u8],
+    left: usize,
+    at: Position,
+    work: &mut [u32],
+    from: Place,
+    room: usize,
+) -> Taken
+    requires { ⌜ Target (now body) (now work) (from .number) room ⌝ }
+    ensures { λ r. ⌜ Took codeGamma (now (body .entry)) left at room (from .number) (now (work .entry)) (now (work .exit)) r ⌝ }
 {
-    read(body, n, work, from, Form::Gamma)
+    take(body, left, at, work, from, room, Form::Gamma)
 }
 
-// Reads n numbers in delta from a body into work from a place on.
-pub fn read_delta(body: &[u8], n: usize, work: &mut [u32], from: Place) -> Reading
-    requires { ⌜ Target (now body) (now work) (from .number) n ⌝ }
-    ensures { λ r. ⌜ Got (readCode codeDelta (now (body .entry)) n) (from .number) (now (work .entry)) (now (work .exit)) r ⌝ }
+// Takes numbers in delta from a position on into work from a place on.
+pub fn take_delta(
+    body: &[u8],
+    left: usize,
+    at: Position,
+    work: &mut [u32],
+    from: Place,
+    room: usize,
+) -> Taken
+    requires { ⌜ Target (now body) (now work) (from .number) room ⌝ }
+    ensures { λ r. ⌜ Took codeDelta (now (body .entry)) left at room (from .number) (now (work .entry)) (now (work .exit)) r ⌝ }
 {
-    read(body, n, work, from, Form::Delta)
+    take(body, left, at, work, from, room, Form::Delta)
+}
+
+// Nothing is left from a position on but spare bits, which are 0.
+pub fn done(body: &[u8], at: Position) -> bool
+    requires { ⌜ length (now body) ≤ mostBytes ⌝ }
+    ensures { λ r. ⌜ r ≡ doneElias (now (body .entry)) at ⌝ }
+{
+    let p = at.bit.index;
+    let bits = 8 * body.len();
+    if bits <= p {
+        return true;
+    }
+    if 7 < bits - p {
+        return false;
+    }
+    top(peek(body, p), 7) == 0
 }

@@ -2,16 +2,20 @@
 use crate::input::peek;
 use crate::input::take_bits;
 use crate::input::top;
+use meaning::Bit;
+use meaning::FAULT;
+use meaning::Offset;
+use meaning::Position;
 ghost use mathlib.Core.Path.{_≡_};
 ghost use Prim.Native.Nat.{_+_, _-_, _*_, _<_, _≤_};
 ghost use lib.Dec.{leb};
 ghost use lib.ListN.{length, drop};
 ghost use Rattle.meaning.specs.Answer.{given, need};
 ghost use Rattle.meaning.specs.Bits.{bitsOf};
-ghost use Rattle.meaning.specs.Elias.{gammaIn, deltaWord, doneElias};
+ghost use Rattle.meaning.specs.Elias.{gammaIn, deltaWord};
 ghost use Rattle.meaning.specs.Limits.{fault, mostBytes};
 ghost use Rattle.meaning.specs.Positions.{atBit};
-ghost use Rattle.elias.specs.Says.{wordSays, wordRefusal, wordOf};
+ghost use Rattle.elias.specs.Says.{wordSays, wordOf};
 
 // The code that codewords are of.
 pub enum Form {
@@ -25,13 +29,14 @@ pub enum Codeword {
     Refused(u8),
 }
 
-// The number of a codeword's refusal, 0 where it is none.
-pub fn refusal_of(w: Codeword) -> u8
-    ensures { λ r. ⌜ r ≡ wordRefusal w ⌝ }
+// A position that is a bit alone.
+pub fn from_bit(index: usize) -> Position
+    ensures { λ r. ⌜ r ≡ atBit index ⌝ }
 {
-    match w {
-        Codeword::Value(_, _) => 0,
-        Codeword::Refused(e) => e,
+    Position {
+        head: Offset { byte: 0 },
+        tail: Offset { byte: 0 },
+        bit: Bit { index },
     }
 }
 
@@ -42,7 +47,7 @@ fn within(v: u64, most: u64, size: usize) -> Codeword
     if v <= most {
         return Codeword::Value(v, size);
     }
-    Codeword::Refused(9)
+    Codeword::Refused(FAULT)
 }
 
 // The value in gamma at a bit, with at most so many zeros, and not above `most`. In 57 bits seen at once are 28 zeros and what stands behind them.
@@ -53,12 +58,12 @@ fn gamma_in(body: &[u8], p: usize, zeros: usize, most: u64) -> Codeword
     let seen = peek(body, p);
     let z = u64::leading_zeros(seen) as usize;
     if zeros < z {
-        return Codeword::Refused(9);
+        return Codeword::Refused(FAULT);
     }
     let size = 2 * z + 1;
     let left = 8 * body.len() - p;
     if left < size {
-        return Codeword::Refused(9);
+        return Codeword::Refused(FAULT);
     }
     if z <= 28 {
         return within(top(seen, size), most, size);
@@ -78,7 +83,7 @@ fn delta_at(body: &[u8], p: usize) -> Codeword
     let n = (long - 1) as usize;
     let left = 8 * body.len() - p;
     if left - size < n {
-        return Codeword::Refused(9);
+        return Codeword::Refused(FAULT);
     }
     within(
         (1 << n) + take_bits(body, p + size, n),
@@ -93,22 +98,10 @@ pub fn word_at(body: &[u8], p: usize, form: Form) -> Codeword
     ensures { λ r. ⌜ wordSays r ≡ wordOf form (drop p (bitsOf (now (body .entry)))) ⌝ }
 {
     if 8 * body.len() <= p {
-        return Codeword::Refused(9);
+        return Codeword::Refused(FAULT);
     }
     match form {
         Form::Gamma => gamma_in(body, p, 32, 4294967296),
         Form::Delta => delta_at(body, p),
     }
-}
-
-// Nothing is left from a bit on but spare bits, which are 0.
-pub fn done(body: &[u8], p: usize) -> bool
-    requires { ⌜ (length (now body) ≤ mostBytes) × (p ≤ 8 * length (now body)) ⌝ }
-    ensures { λ r. ⌜ r ≡ doneElias (now (body .entry)) (atBit p) ⌝ }
-{
-    let left = 8 * body.len() - p;
-    if 7 < left {
-        return false;
-    }
-    top(peek(body, p), 7) == 0
 }

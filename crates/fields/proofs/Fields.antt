@@ -17,7 +17,7 @@ use Rattle.meaning.specs.Lists.{sum, joined}
 use Rattle.meaning.specs.Bytes.{bytesOf, numberOf}
 use Rattle.meaning.specs.Fields.{byteLength, fewest, fields, fieldsIn}
 use Rattle.meaning.specs.Places.{Below}
-use Rattle.meaning.proofs.Answers.{bind-given, need-given}
+use Rattle.meaning.proofs.Answers.{Faulty, bind-given, need-given, bind-faulty, need-faulty}
 use Rattle.meaning.proofs.Bounds.{below-nil, below-cons, below-append, below-take, below-drop}
 use Rattle.meaning.proofs.Tests.{by-order}
 use Rattle.fields.proofs.Bytes.{bytes-length, bytes-small, number-bytes, number-small, bytes-number}
@@ -131,6 +131,14 @@ fields-back (l ∷ ls) bytes xs h fits e =
     subst (FieldsAre (l ∷ ls) bytes) is
     (field-more l ls bytes ys h (omega arith) (eqb-true _ l t)
     (fields-back ls (drop l bytes) ys (below-drop 256 l bytes h) (omega (arith, length-drop l bytes)) ey))
+
+-- whatever fields are refused by is a fault
+pub fields-faulty : (ls bytes : List ℕ) → Faulty (fieldsIn ls bytes)
+unfolding fieldsIn
+fields-faulty [] bytes = tt
+fields-faulty (l ∷ ls) bytes =
+    need-faulty (eqb (byteLength (numberOf (take l bytes))) l) _
+    (bind-faulty (fieldsIn ls (drop l bytes)) _ (fields-faulty ls (drop l bytes)) (λ xs. tt))
 
 -- ---- by the count of leading zeros: x has m binary digits
 module _ (x : ℕ) (h : x < 2 ^ 32) where

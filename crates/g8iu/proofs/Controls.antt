@@ -1,21 +1,21 @@
 -- The control byte of a block: its bits say the lengths, and the lengths say its bits. Assumes nothing.
 use Prim.Native.Nat.{ℕ, zero, suc, _+_, _-_, _*_, _/_, _%_, _^_, _≤_, _<_}
 use mathlib.Core.Path.{_≡_, refl, sym, ap, ap₂, _∙_}
-use mathlib.Core.Bool.{Bool, _&&_}
+use mathlib.Core.Bool.{Bool, _&&_, cond}
 use mathlib.Core.List.{List, [], _∷_, _++_, append-assoc}
 use native.Mathlib.Nat.{pow-suc, add-zero}
 use native.Mathlib.Omega.{arith}
-use lib.Count.{ones, onesIn}
-use lib.Dec.{leb, eqb}
+use lib.Count.{ones, onesIn, leadingZeros}
+use lib.Dec.{leb, ltb, eqb}
 use lib.ListN.{length, replicate, length-append, length-replicate, replicate-append-replicate}
-use borrow.Author.Tests.{eqb-true, leb-true}
+use borrow.Author.Tests.{le-leb, lt-leb, leb-true, ltb-true, eqb-true}
 use Rattle.meaning.specs.Lists.{sum, joined}
 use Rattle.meaning.specs.Places.{Below}
 use Rattle.meaning.specs.G8IU.{bitsLow, numberLow, endBits, blockControl, lengthsBy, blockLengths}
 use Rattle.meaning.proofs.Bounds.{below-nil, below-cons, below-append}
 use Rattle.meaning.proofs.Tests.{both-true}
 use Rattle.leaves.proofs.Joined.{joined-append, joined-one, sum-append}
-use Rattle.g8iu.proofs.Tables.{each, at-each}
+use Rattle.g8iu.proofs.Tables.{at-each}
 
 -- ---- bits, lowest first
 pub bits-number : (bs : List ℕ) → Below 2 bs → bitsLow (length bs) (numberLow bs) ≡ bs
@@ -146,20 +146,34 @@ module _ (ls : List ℕ) (l : ℕ) (some : Some ls) (least : 1 ≤ l) (within : 
   control-more =
       ap numberLow bits-now ∙ number-bit lower upper ∙ ap₂ (λ (b : List ℕ) (n : ℕ). numberLow b + 2 ^ n) (sym bits-next) lower-length
 
--- ---- and back, by a test of each control byte
+-- ---- and back, by a test of each control byte; its ends are its zero bits
 abbrev sound : ℕ → Bool
-unfolding blockControl blockLengths numberLow bitsLow lengthsBy endBits joined sum ones onesIn
+unfolding blockControl blockLengths numberLow bitsLow lengthsBy endBits joined sum ones onesIn leadingZeros
 sound c =
-    eqb (blockControl (blockLengths c)) c && (eqb (length (blockLengths c)) (8 - ones c) && leb (sum (blockLengths c)) 8)
+    let ls = blockLengths c in
+    eqb (blockControl ls) c && (eqb (length ls) (8 - ones c) && (leb (sum ls) 8
+    && (eqb (leadingZeros 32 (255 - c)) (32 - sum ls) && cond (leb 16 (255 - c)) (leb (8 - sum ls) 3 && leb 1 (length ls)) (ltb 3 (8 - sum ls)))))
 
 pub record Control (c : ℕ) (ls : List ℕ) : Type 0 where
   pub back : blockControl ls ≡ c
   pub many : length ls ≡ 8 - ones c
   pub within : sum ls ≤ 8
+  pub top : leadingZeros 32 (255 - c) ≡ 32 - sum ls
+  pub full : 16 ≤ 255 - c → (8 - sum ls ≤ 3) × (1 ≤ length ls)
+  pub wasteful : 255 - c < 16 → 3 < 8 - sum ls
 
 pub control-is : (c : ℕ) → c < 256 → Control c (blockLengths c)
-unfolding sound blockControl blockLengths numberLow bitsLow lengthsBy endBits joined sum ones onesIn
+unfolding sound blockControl blockLengths numberLow bitsLow lengthsBy endBits joined sum ones onesIn leadingZeros
 control-is c h =
     let (a, r) = both-true (eqb (blockControl (blockLengths c)) c) _ (at-each 256 sound refl c h) in
-    let (b, d) = both-true (eqb (length (blockLengths c)) (8 - ones c)) _ r in
-    record { back = eqb-true _ _ a; many = eqb-true _ _ b; within = leb-true _ _ d }
+    let (b, r₁) = both-true (eqb (length (blockLengths c)) (8 - ones c)) _ r in
+    let (d, r₂) = both-true (leb (sum (blockLengths c)) 8) _ r₁ in
+    let (e, r₃) = both-true (eqb (leadingZeros 32 (255 - c)) (32 - sum (blockLengths c))) _ r₂ in
+    record {
+      back = eqb-true _ _ a;
+      many = eqb-true _ _ b;
+      within = leb-true _ _ d;
+      top = eqb-true _ _ e;
+      full = λ l. let (f, g) = both-true (leb (8 - sum (blockLengths c)) 3) _ (rw (le-leb 16 (255 - c) l) at r₃) in (leb-true _ _ f, leb-true _ _ g);
+      wasteful = λ l. ltb-true _ _ (rw (lt-leb 16 (255 - c) l) at r₃);
+    }

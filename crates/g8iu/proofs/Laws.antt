@@ -1,26 +1,29 @@
 -- G8IU is lawful: what it writes reads back, what it reads is what would be written, and its size is as told. Assumes nothing.
 use Prim.Native.Nat.{ℕ, suc, _+_, _-_, _≤_, _<_}
 use mathlib.Core.Path.{_≡_, refl, sym, ap, _∙_, subst}
-use mathlib.Core.Bool.{Bool, true, false, not, _||_}
+use mathlib.Core.Bool.{true, not, _||_, or-true}
 use mathlib.Core.List.{List, [], _∷_, _++_}
 use native.Mathlib.Omega.{arith}
 use lib.Dec.{leb, eqb}
-use lib.ListN.{length, drop, length-append, length-drop, drop-of-length-le}
+use lib.ListN.{length, getD, take, drop, length-append, length-drop, drop-of-length-le}
 use lib.Seq.{drop-at, drop-drop}
 use borrow.Author.Tests.{le-leb, eq-eqb, eqb-true, not-true}
 use Rattle.meaning.specs.Answer.{given}
 use Rattle.meaning.specs.Codes.{codeG8IU, readCode, toLast}
 use Rattle.meaning.specs.Limits.{numberLimit}
+use Rattle.meaning.specs.Lists.{all, sum}
 use Rattle.meaning.specs.Places.{Below}
 use Rattle.meaning.specs.Positions.{atByte}
 use Rattle.meaning.specs.Fields.{fields}
-use Rattle.meaning.specs.G8IU.{fits, block, writeG8IU, unitG8IU, joinsG8IU}
+use Rattle.meaning.specs.G8IU.{fits, block, writeG8IU, blockLengths, blockIn, unitG8IU, joinsG8IU}
 use Rattle.meaning.specs.declared.Position.{Position}
+use Rattle.meaning.proofs.Answers.{Faulty, bind-faulty, need-faulty}
 use Rattle.meaning.proofs.Bounds.{below-nil, below-append, below-left, below-right}
 use Rattle.meaning.proofs.Lawful.{Lawful, Read}
 use Rattle.meaning.proofs.Units.{Whole, read-many, read-written, read-holds}
-use Rattle.fields.proofs.Fields.{fields-most}
+use Rattle.fields.proofs.Fields.{fields-most, fields-faulty}
 use Rattle.g8iu.proofs.Blocks.{Stops, cut, stops-full, block-length, write-none, write-next, most, write-small}
+use Rattle.g8iu.proofs.Spares.{fresh}
 use Rattle.g8iu.proofs.Units.{Ends, unit-written, taken, good, Back, unit-back}
 
 -- ---- a list that may follow a block
@@ -74,23 +77,22 @@ ended body before at e =
       follows = tt;
     }
 
-or-true : (b : Bool) → b || true ≡ true
-or-true true = refl
-or-true false = refl
-
 -- a block's waste is at most 3, or the list ends there
 ends-so : (taken rest : List ℕ) (left : ℕ) → Stops taken rest → length taken + length rest ≡ left → Ends left taken ≡ true
 ends-so taken [] left h l = rw (eq-eqb (length taken) left (omega arith)) (or-true (leb (8 - length (fields taken)) 3))
 ends-so taken (x ∷ rest) left h l = let full = stops-full taken x rest h .0 in rw (le-leb (8 - length (fields taken)) 3 (omega arith))
 
 -- a first block of a body that holds a list
-heads-cut : (body before : List ℕ) (p : Position) (x : ℕ) (more rest : List ℕ) → length (fields (x ∷ more)) ≤ 8 → Stops (x ∷ more) rest → HoldsAt body before p (x ∷ (more ++ rest))
-    → (unitG8IU body (suc (length (more ++ rest))) p ≡ given (atByte (p .head .byte + 9), x ∷ more)) × (joinsG8IU before (x ∷ more) ≡ true) × Holds body (x ∷ more) (p .head .byte + 9) rest
+heads-cut : (body before : List ℕ) (p : Position) (x : ℕ) (more rest : List ℕ) → length (fields (x ∷ more)) ≤ 8 → Stops (x ∷ more) rest
+    → HoldsAt body before p (x ∷ (more ++ rest))
+    → (unitG8IU body (suc (length (more ++ rest))) p ≡ given (atByte (p .head .byte + 9), x ∷ more)) × (joinsG8IU before (x ∷ more) ≡ true)
+    × Holds body (x ∷ more) (p .head .byte + 9) rest
 heads-cut body before p x more rest fitted stops h =
     let at = p .head .byte in
     let e : drop at body ≡ block (x ∷ more) ++ writeG8IU rest = h .bytes ∙ write-next x more rest fitted stops in
     let l : length body - at ≡ 9 + length (writeG8IU rest) =
-    sym (length-drop at body) ∙ ap length e ∙ length-append (block (x ∷ more)) (writeG8IU rest) ∙ ap (λ (n : ℕ). n + length (writeG8IU rest)) (block-length (x ∷ more) fitted) in
+    sym (length-drop at body) ∙ ap length e ∙ length-append (block (x ∷ more)) (writeG8IU rest)
+    ∙ ap (λ (n : ℕ). n + length (writeG8IU rest)) (block-length (x ∷ more) fitted) in
     let n : length (more ++ rest) ≡ length more + length rest = length-append more rest in (
       unit-written (suc (length (more ++ rest))) (x ∷ more) (omega arith) (omega arith) (below-left numberLimit (x ∷ more) rest (h .small)) fitted
           (ends-so (x ∷ more) rest (suc (length (more ++ rest))) stops (omega arith)) body p (writeG8IU rest) (h .inside) e,
@@ -104,7 +106,8 @@ heads-cut body before p x more rest fitted stops h =
     )
 
 heads : (body before : List ℕ) (p : Position) (x : ℕ) (xs : List ℕ) → HoldsAt body before p (x ∷ xs)
-    → (u : Position × List ℕ) × (unitG8IU body (suc (length xs)) p ≡ given u) × (joinsG8IU before (u .1) ≡ true) × ((zs : List ℕ) × (u .1 ++ zs ≡ x ∷ xs) × HoldsAt body (u .1) (u .0) zs)
+    → (u : Position × List ℕ) × (unitG8IU body (suc (length xs)) p ≡ given u) × (joinsG8IU before (u .1) ≡ true)
+    × ((zs : List ℕ) × (u .1 ++ zs ≡ x ∷ xs) × HoldsAt body (u .1) (u .0) zs)
 heads body before p x xs h =
     let c = cut (x ∷ []) xs (omega (arith, fields-most (x ∷ []))) in
     let u : Position × List ℕ = (atByte (p .head .byte + 9), x ∷ c .more) in
@@ -124,8 +127,8 @@ headed-at body before at (y ∷ ys) zs some inside k j h =
       follows = joins-first before y (ys ++ zs) ys ∙ j;
     }
 
-headed : (body : List ℕ) → Below 256 body → (n : ℕ) (before : List ℕ) (p : Position) (u : Position × List ℕ) (zs : List ℕ) → unitG8IU body (suc n) p ≡ given u → joinsG8IU before (u .1) ≡ true
-    → HoldsAt body (u .1) (u .0) zs → HoldsAt body before p (u .1 ++ zs)
+headed : (body : List ℕ) → Below 256 body → (n : ℕ) (before : List ℕ) (p : Position) (u : Position × List ℕ) (zs : List ℕ)
+    → unitG8IU body (suc n) p ≡ given u → joinsG8IU before (u .1) ≡ true → HoldsAt body (u .1) (u .0) zs → HoldsAt body before p (u .1 ++ zs)
 headed body b n before p u zs e j h =
     let t = taken body (suc n) p u e in
     headed-at body before (p .head .byte) (u .1) zs (good body .some (suc n) p u (omega arith) e) (t .inside) (unit-back body b (suc n) p u e) j
@@ -158,5 +161,29 @@ back body n xs b e =
       small = h .small;
     }
 
+unit-faulty : (body : List ℕ) (left : ℕ) (p : Position) → Faulty (unitG8IU body left p)
+unfolding unitG8IU blockIn
+unit-faulty body left p =
+    let ls = blockLengths (getD body (p .head .byte) 0) in
+    let bytes = take 8 (drop (p .head .byte + 1) body) in
+    need-faulty (leb (p .head .byte + 9) (length body)) _
+    (bind-faulty (blockIn left ls bytes) _
+    (need-faulty (leb 1 (length ls)) _
+    (need-faulty (leb (length ls) left) _
+    (need-faulty (leb (8 - sum ls) 3 || eqb (length ls) left) _ (need-faulty (all (eqb 0) (drop (sum ls) bytes)) _ (fields-faulty ls bytes)))))
+    (λ xs. tt))
+
 pub lawful : Lawful codeG8IU
-lawful = record { good = λ body b. good body; forth = forth; back = back; most = λ xs h. most xs; bytes = λ xs h. write-small xs }
+lawful =
+    record {
+      good = λ body b. good body;
+      begins = λ body n. tt;
+      faulty = unit-faulty;
+      fresh = fresh;
+      forth = forth;
+      back = back;
+      most = λ xs h. most xs;
+      bytes = λ xs h. write-small xs;
+      grows = λ k n h. omega arith;
+      nine = λ n. omega arith;
+    }

@@ -8,8 +8,9 @@ pub mod Parts
 pub mod Puts
 pub mod Writes
 pub mod Ends
-pub mod Takes
+pub mod Masks
+pub mod Numbers
 pub mod Eights
-pub mod Readings
-pub mod Plains
-pub mod PlainReads
+pub mod Spares
+pub mod Standing
+pub mod Takes

@@ -1,3 +1,2 @@
 -- What this crate's helper functions answer, in the meaning's words.
 pub mod Blocks
-pub mod Plain

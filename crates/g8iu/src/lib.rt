@@ -1,25 +1,32 @@
 // Code 3, G8IU: blocks of a control byte and 8 data bytes. Bit i is 0 when data byte i ends a number.
-use crate::plain::read_plain;
 use crate::putting::put_block;
-use crate::taking::Block;
-use crate::taking::FAULT;
-use crate::taking::take_block;
+use crate::taking::LEAST;
+use crate::taking::MOST;
+use crate::taking::has_block;
+use crate::taking::take_ends;
 use fields::byte_length;
+use leaves::lesser;
+use leaves::taken;
+use leaves::wide;
 use meaning::Bit;
+use meaning::FAULT;
 use meaning::Offset;
 use meaning::Place;
 use meaning::Position;
-use meaning::Reading;
+use meaning::Taken;
 use meaning::Unit;
 use meaning::UnitRead;
-ghost use Prim.Native.Nat.{_≤_};
-ghost use lib.ListN.{length};
+ghost use mathlib.Core.Path.{_≡_};
+ghost use Prim.Native.Nat.{_-_, _/_, _≤_};
+ghost use lib.ListN.{length, take};
 ghost use Rattle.meaning.specs.Answer.{refused};
-ghost use Rattle.meaning.specs.Codes.{codeG8IU, readCode};
-ghost use Rattle.meaning.specs.Limits.{mostBytes};
-ghost use Rattle.meaning.specs.Places.{Source, Target, Wrote, Got, UnitIs, part};
+ghost use Rattle.meaning.specs.Codes.{codeG8IU};
+ghost use Rattle.meaning.specs.G8IU.{blockLengths};
+ghost use Rattle.meaning.specs.Limits.{mostBytes, fault};
+ghost use Rattle.meaning.specs.Places.{Source, Target, Wrote, UnitIs, Took, Ends, Spare, part};
+ghost use Rattle.meaning.specs.Positions.{atByte};
+ghost use Rattle.g8iu.specs.Blocks.{allowed, Plain};
 
-mod plain;
 mod putting;
 mod taking;
 
@@ -39,14 +46,43 @@ pub fn write(list: &[u32], from: Place, n: usize, out: &mut [u8], at: Offset) ->
     Offset { byte: to }
 }
 
+// A position that is an offset alone.
+fn from_byte(byte: usize) -> Position
+    ensures { λ r. ⌜ r ≡ atByte byte ⌝ }
+{
+    Position {
+        head: Offset { byte },
+        tail: Offset { byte: 0 },
+        bit: Bit { index: 0 },
+    }
+}
+
 // A unit that is refused has no numbers.
-fn refusal(e: u8) -> UnitRead
-    ensures { λ r. ⌜ UnitIs (refused e) r ⌝ }
+fn refusal() -> UnitRead
+    ensures { λ r. ⌜ UnitIs (refused fault) r ⌝ }
 {
     UnitRead {
-        unit: Unit::Refused(e),
+        unit: Unit::Refused(FAULT),
         numbers: [0u32; 8],
     }
+}
+
+// Whether a control byte is allowed where so many numbers are still to come: its block holds one at least and none beyond the list, and
+// its waste is at most 3 bytes unless the list ends there.
+fn is_allowed(control: u8, left: usize) -> bool
+    ensures { λ r. ⌜ r ≡ allowed left (blockLengths control) ⌝ }
+{
+    let count = (8 - u8::count_ones(control)) as usize;
+    if count < 1 {
+        return false;
+    }
+    if left < count {
+        return false;
+    }
+    if count == left {
+        return true;
+    }
+    16 <= 255 - wide(control)
 }
 
 // Reads the unit at a position: a block.
@@ -56,61 +92,107 @@ pub fn unit(body: &[u8], left: usize, at: Position) -> UnitRead
 {
     let head = at.head;
     let first = head.byte;
-    let len = body.len();
-    if len < 9 {
-        return refusal(FAULT);
+    if !has_block(body, first) {
+        return refusal();
     }
-    if len - 9 < first {
-        return refusal(FAULT);
+    let control = body[first];
+    if !is_allowed(control, left) {
+        return refusal();
     }
-    let next = first + 9;
+    let most = MOST;
+    let least = LEAST;
     let mut numbers = [0u32; 8];
-    let r = take_block(body, first, left, &mut numbers, 0);
-    match r {
-        Block::Taken(count, _) => UnitRead {
-            unit: Unit::Next(
-                Position {
-                    head: Offset { byte: next },
-                    tail: Offset { byte: 0 },
-                    bit: Bit { index: 0 },
-                },
-                count,
-            ),
-            numbers,
-        },
-        Block::Refused(e) => refusal(e),
+    let ends = 255 - wide(control);
+    let count = take_ends(body, first, ends, &most, &least, &mut numbers, 0);
+    if count == 0 {
+        return refusal();
+    }
+    UnitRead {
+        unit: Unit::Next(from_byte(first + 9), count),
+        numbers,
     }
 }
 
-// Reads a whole body of n numbers into work, from a place on. A block's first number must not have fitted into the room that the block before left.
-pub fn read(body: &[u8], n: usize, work: &mut [u32], from: Place) -> Reading
-    requires { ⌜ Target (now body) (now work) (from .number) n ⌝ }
-    ensures { λ r. ⌜ Got (readCode codeG8IU (now (body .entry)) n) (from .number) (now (work .entry)) (now (work .exit)) r ⌝ }
+// The ends of a plain block: 0 where there is none at the offset, where more than 3 of its bytes are waste, and where its first number would have
+// fitted into what the block before left spare.
+fn plain_ends(body: &[u8], at: usize, spare: usize) -> u32
+    ensures { λ r. ⌜ ((r ≡ 0 → ⊥) → Plain (now (body .entry)) at spare r) ⌝ }
 {
+    if !has_block(body, at) {
+        return 0;
+    }
+    let ends = 255 - wide(body[at]);
+    if ends < 16 {
+        return 0;
+    }
+    if (u32::trailing_zeros(ends) as usize) < spare {
+        return 0;
+    }
+    ends
+}
+
+// Blocks were taken, of 9 bytes each: from a place on up to another, and from a position on up to an offset.
+fn reached(at: Position, from: Place, next: Place, to: Offset, spare: usize) -> Taken
+    requires { ⌜ (from .number ≤ next .number) × (at .head .byte ≤ to .byte) ⌝ }
+    ensures { λ r. ⌜ Ends at (next .number - from .number) ((to .byte - at .head .byte) / 9) spare (atByte (to .byte)) r ⌝ }
+{
+    let head = at.head;
+    let count = next.number - from.number;
+    let units = (to.byte - head.byte) / 9;
+    taken(at, count, units, spare, from_byte(to.byte))
+}
+
+// Takes blocks from a position on into work, as long as they are plain, at least 8 numbers are still to come and there is room for 8.
+pub fn take(
+    body: &[u8],
+    left: usize,
+    at: Position,
+    work: &mut [u32],
+    from: Place,
+    room: usize,
+) -> Taken
+    requires { ⌜ Target (now body) (now work) (from .number) room ⌝ }
+    ensures { λ r. ⌜ Took codeG8IU (now (body .entry)) left at room (from .number) (now (work .entry)) (now (work .exit)) r ⌝ }
+{
+    let most = MOST;
+    let least = LEAST;
+    let head = at.head;
     let first = from.number;
-    let plain = read_plain(body, n, work, first);
-    let mut i = plain.next - first;
-    let mut at = plain.at;
-    let mut room = plain.room;
-    while i < n {
-        if body.len() - at < 9 {
-            return Reading::Refused(FAULT);
+    let n = lesser(left, room);
+    // From there on fewer than 8 numbers are still to come, or there is room for fewer.
+    let end = first + (n - lesser(n, 7));
+    let mut next = first;
+    let mut to = head.byte;
+    let mut spare: usize = 0;
+    while next < end {
+        let ends = plain_ends(body, to, spare);
+        if ends == 0 {
+            return reached(at, from, Place { number: next }, Offset { byte: to }, spare);
         }
-        let r = take_block(body, at, n - i, work, first + i);
-        match r {
-            Block::Taken(count, waste) => {
-                if byte_length(work[first + i]) <= room {
-                    return Reading::Refused(FAULT);
-                }
-                i += count;
-                at += 9;
-                room = waste;
-            }
-            Block::Refused(e) => return Reading::Refused(e),
+        let after = take_ends(body, to, ends, &most, &least, work, next);
+        if after == 0 {
+            return reached(at, from, Place { number: next }, Offset { byte: to }, spare);
         }
+        next = after;
+        to += 9;
+        spare = u32::leading_zeros(ends) as usize - 24;
     }
-    if at == body.len() {
-        return Reading::Whole(n);
+    reached(at, from, Place { number: next }, Offset { byte: to }, spare)
+}
+
+// What a block of so many numbers left spare of its 8 data bytes.
+pub fn spare_after(numbers: [u32; 8], count: usize) -> usize
+    requires { ⌜ count ≤ 8 ⌝ }
+    ensures { λ r. ⌜ Spare (codeG8IU .joins) (take count numbers) r ⌝ }
+{
+    if count == 0 {
+        return 0;
     }
-    Reading::Refused(FAULT)
+    let mut used: usize = 0;
+    let mut i: usize = 0;
+    while i < count {
+        used += byte_length(numbers[i]);
+        i += 1;
+    }
+    8 - lesser(used, 8)
 }

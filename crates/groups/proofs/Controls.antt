@@ -7,7 +7,6 @@ use native.Mathlib.Omega.{arith}
 use lib.ListN.{length, length-map}
 use Rattle.meaning.specs.Fields.{byteLength}
 use Rattle.meaning.specs.Groups.{controlOf, lengthsIn, control}
-use Rattle.meaning.specs.Lists.{sum}
 use Rattle.fields.proofs.Fields.{held}
 
 -- the lengths that a field can say
@@ -55,15 +54,12 @@ unfolding lengthsIn
 lengths-many zero c = refl
 lengths-many (suc k) c = ap suc (lengths-many k (c / 4))
 
-pub lengths-some : (k c : ℕ) → k ≤ sum (lengthsIn k c)
-unfolding lengthsIn sum
-lengths-some zero c = omega arith
-lengths-some (suc k) c = omega (arith, lengths-some k (c / 4))
-
 -- ---- the control byte of numbers
 pub control-in : (xs : List ℕ) → lengthsIn (length xs) (control xs) ≡ map byteLength xs
 unfolding control
-control-in xs = ap (λ (k : ℕ). lengthsIn k (controlOf (map byteLength xs))) (sym (length-map xs byteLength)) ∙ control-lengths (map byteLength xs) (lengths-of xs)
+control-in xs =
+    ap (λ (k : ℕ). lengthsIn k (controlOf (map byteLength xs))) (sym (length-map xs byteLength))
+    ∙ control-lengths (map byteLength xs) (lengths-of xs)
 
 pub control-none : (xs : List ℕ) → control xs / 4 ^ length xs ≡ 0
 unfolding control
@@ -72,4 +68,6 @@ control-none xs = ap (λ (k : ℕ). controlOf (map byteLength xs) / 4 ^ k) (sym 
 -- four numbers at most have a control byte
 pub control-byte : (xs : List ℕ) → length xs ≤ 4 → control xs < 256
 unfolding control
-control-byte xs h = lt-of-lt-of-le (control-small (map byteLength xs) (lengths-of xs)) (pow-le-pow-right {n = 4} (omega arith) {j = 4} (rw (length-map xs byteLength) h))
+control-byte xs h =
+    lt-of-lt-of-le (control-small (map byteLength xs) (lengths-of xs))
+    (pow-le-pow-right {n = 4} (omega arith) {j = 4} (rw (length-map xs byteLength) h))

@@ -1,9 +1,9 @@
 -- A list in groups of four, and what is written group by group. Assumes nothing.
-use Prim.Native.Nat.{ℕ, zero, suc, _+_, _-_, _*_, _<_, min}
+use Prim.Native.Nat.{ℕ, _+_, _<_, min}
 use mathlib.Core.Path.{_≡_, refl, sym, ap, _∙_}
 use mathlib.Core.List.{List, [], _∷_, _++_, append-nil, map}
 use native.Mathlib.Omega.{arith}
-use lib.ListN.{length, getD, take, drop, drop-of-length-le, length-append, length-take, length-drop, length-map, take-append-drop}
+use lib.ListN.{length, take, drop, drop-of-length-le, length-append, length-take, length-drop, length-map, take-append-drop}
 use lib.Seq.{take-at, drop-at, take-all}
 use Rattle.meaning.specs.Fields.{fields}
 use Rattle.meaning.specs.Groups.{fours, groupCount, control, writeGroups, writeStream}
@@ -22,11 +22,6 @@ fours-next (a ∷ []) h = refl
 fours-next (a ∷ b ∷ []) h = refl
 fours-next (a ∷ b ∷ c ∷ []) h = refl
 fours-next (a ∷ b ∷ c ∷ d ∷ xs) h = refl
-
-pub fours-none : (xs : List ℕ) → length xs ≡ 0 → fours xs ≡ []
-unfolding fours
-fours-none [] h = refl
-fours-none (x ∷ xs) h = absurd (omega arith)
 
 pub fours-count : (xs : List ℕ) → length (fours xs) ≡ groupCount (length xs)
 unfolding fours groupCount
@@ -56,18 +51,6 @@ by-fours P none more (a ∷ b ∷ []) = more (a ∷ b ∷ []) (omega arith) none
 by-fours P none more (a ∷ b ∷ c ∷ []) = more (a ∷ b ∷ c ∷ []) (omega arith) none
 by-fours P none more (a ∷ b ∷ c ∷ d ∷ xs) = more (a ∷ b ∷ c ∷ d ∷ xs) (omega arith) (by-fours P none more xs)
 
--- each group is full but the last, which has what is left
-each-next : (xs : List ℕ) → 0 < length xs → ((i : ℕ) → i < length (fours (drop 4 xs)) → length (getD (fours (drop 4 xs)) i []) ≡ min 4 (length (drop 4 xs) - 4 * i))
-    → (i : ℕ) → i < length (fours xs) → length (getD (fours xs) i []) ≡ min 4 (length xs - 4 * i)
-each-next xs some ih zero h = rw (fours-next xs some) (omega (arith, length-take 4 xs))
-each-next xs some ih (suc i) h =
-    let more : i < length (fours (drop 4 xs)) = omega (arith, ap length (fours-next xs some)) in
-    rw (fours-next xs some) (ih i more ∙ omega (arith, length-drop 4 xs))
-
-pub fours-each : (xs : List ℕ) (i : ℕ) → i < length (fours xs) → length (getD (fours xs) i []) ≡ min 4 (length xs - 4 * i)
-unfolding fours
-fours-each = by-fours (λ (xs : List ℕ). (i : ℕ) → i < length (fours xs) → length (getD (fours xs) i []) ≡ min 4 (length xs - 4 * i)) (λ i h. absurd (omega arith)) each-next
-
 -- ---- what is written, group by group
 pub groups-next : (xs : List ℕ) → 0 < length xs → writeGroups xs ≡ control (take 4 xs) ∷ (fields (take 4 xs) ++ writeGroups (drop 4 xs))
 unfolding writeGroups joined
@@ -87,7 +70,8 @@ unfolding fours
 controls-small =
     by-fours (λ (xs : List ℕ). Below 256 (map control (fours xs)))
     (below-nil 256 (omega arith))
-    (λ xs h ih. rw (controls-next xs h) (below-cons 256 (control (take 4 xs)) (map control (fours (drop 4 xs))) (control-byte (take 4 xs) (omega (arith, length-take 4 xs))) ih))
+    (λ xs h ih. rw (controls-next xs h)
+    (below-cons 256 (control (take 4 xs)) (map control (fours (drop 4 xs))) (control-byte (take 4 xs) (omega (arith, length-take 4 xs))) ih))
 
 pub groups-small : (xs : List ℕ) → Below 256 (writeGroups xs)
 unfolding writeGroups joined fours

@@ -12,12 +12,12 @@ use Rattle.meaning.specs.Groups.{control, groupAt}
 use Rattle.meaning.specs.Limits.{numberLimit}
 use Rattle.meaning.specs.Places.{Below}
 use Rattle.meaning.specs.declared.Position.{Position}
-use Rattle.meaning.proofs.Answers.{bind-given}
+use Rattle.meaning.proofs.Answers.{Faulty, bind-given, bind-faulty}
 use Rattle.meaning.proofs.Bounds.{below-nil, below-take, below-drop, below-append}
 use Rattle.meaning.proofs.Units.{Good, Whole}
-use Rattle.groups.specs.Reads.{Layout, unitBy}
+use Rattle.groups.specs.Layouts.{Layout, unitBy}
 use Rattle.groups.proofs.Fours.{first-four}
-use Rattle.groups.proofs.OneGroup.{written-at, many-at, there-at, back-at}
+use Rattle.groups.proofs.OneGroup.{written-at, many-at, there-at, back-at, faulty-at}
 
 -- the group of ys stands at p
 pub record First (g : Layout) (body : List ℕ) (p : Position) (ys : List ℕ) : Type 0 where
@@ -56,26 +56,33 @@ module _ (g : Layout) (body : List ℕ) where
         few = λ left p u h e. omega (arith, unit-many left p u e);
       }
 
+  pub unit-faulty : (left : ℕ) (p : Position) → Faulty (unitBy g body left p)
+  unit-faulty left p = bind-faulty (groupAt body left (g .head p) (g .from p)) _ (faulty-at body left (g .head p) (g .from p)) (λ t. tt)
+
   -- ---- whole bodies
   module _ (At : Position → List ℕ → Type 0) (chain : Chain g body At) where
     abbrev pub Holds : List ℕ → Position → List ℕ → Type 0
     Holds before p xs = At p xs × Below numberLimit xs
 
     heads : (before : List ℕ) (p : Position) (x : ℕ) (xs : List ℕ) → Holds before p (x ∷ xs)
-        → (u : Position × List ℕ) × (unitBy g body (suc (length xs)) p ≡ given u) × (always before (u .1) ≡ true) × ((zs : List ℕ) × (u .1 ++ zs ≡ x ∷ xs) × Holds (u .1) (u .0) zs)
+        → (u : Position × List ℕ) × (unitBy g body (suc (length xs)) p ≡ given u) × (always before (u .1) ≡ true)
+        × ((zs : List ℕ) × (u .1 ++ zs ≡ x ∷ xs) × Holds (u .1) (u .0) zs)
     heads before p x xs h =
         let l : List ℕ = x ∷ xs in
         let (first, rest) = chain .apart p l (omega arith) (h .0) in
-        let e = written-at body (take 4 l) _ (suc (length xs)) (g .head p) (g .from p) (first .there) (first .byte) (first .is) (length-take 4 l) (below-take numberLimit 4 l (h .1)) in
+        let e =
+        written-at body (take 4 l) _ (suc (length xs)) (g .head p) (g .from p) (first .there) (first .byte) (first .is)
+        (length-take 4 l) (below-take numberLimit 4 l (h .1)) in
         ((after g p (take 4 l), take 4 l), rw e, refl, (drop 4 l, take-append-drop 4 l, (rest, below-drop numberLimit 4 l (h .1))))
 
-    join : (p : Position) (ys zs : List ℕ) → 0 < length ys → length ys ≡ min 4 (length ys + length zs) → First g body p ys → At (after g p ys) zs → At p (ys ++ zs)
+    join : (p : Position) (ys zs : List ℕ) → 0 < length ys → length ys ≡ min 4 (length ys + length zs) → First g body p ys → At (after g p ys) zs
+        → At p (ys ++ zs)
     join p ys zs some full first rest =
         let (front, back) = first-four ys zs full in
         chain .together p (ys ++ zs) (omega (arith, length-append ys zs)) (rw front first) (rw (front, back) rest)
 
-    headed : Below 256 body → (n : ℕ) (before : List ℕ) (p : Position) (u : Position × List ℕ) (zs : List ℕ) → unitBy g body (suc n) p ≡ given u → length zs ≡ suc n - length (u .1)
-        → Holds (u .1) (u .0) zs → Holds before p (u .1 ++ zs)
+    headed : Below 256 body → (n : ℕ) (before : List ℕ) (p : Position) (u : Position × List ℕ) (zs : List ℕ) → unitBy g body (suc n) p ≡ given u
+        → length zs ≡ suc n - length (u .1) → Holds (u .1) (u .0) zs → Holds before p (u .1 ++ zs)
     headed low n before p u zs e k h =
         let ys = u .1 in
         let t = unit-is (suc n) p u e in
@@ -92,7 +99,8 @@ module _ (g : Layout) (body : List ℕ) where
           below-append numberLimit ys zs (b .small) (h .1),
         )
 
-    pub whole : (done : Position → Bool) → Below 256 body → ((p : Position) → At p [] → done p ≡ true) → ((p : Position) → done p ≡ true → At p []) → Whole (unitBy g body) always done Holds
+    pub whole : (done : Position → Bool) → Below 256 body → ((p : Position) → At p [] → done p ≡ true) → ((p : Position) → done p ≡ true → At p [])
+        → Whole (unitBy g body) always done Holds
     whole done low ends ended =
         record {
           ends = λ before p h. ends p (h .0);

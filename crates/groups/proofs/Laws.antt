@@ -17,20 +17,17 @@ use Rattle.meaning.specs.Lists.{joined}
 use Rattle.meaning.specs.Places.{Below, part}
 use Rattle.meaning.specs.Positions.{atByte, atControl}
 use Rattle.meaning.specs.declared.Position.{Position}
-use Rattle.meaning.proofs.Answers.{bind-given, need-given}
+use Rattle.meaning.proofs.Answers.{bind-given, need-given, need-faulty}
 use Rattle.meaning.proofs.Bounds.{below-append}
+use Rattle.meaning.proofs.Codes.{spare-always}
 use Rattle.meaning.proofs.Lawful.{Lawful, Read}
 use Rattle.meaning.proofs.Units.{Whole, read-many, read-written, read-holds}
 use Rattle.fields.proofs.Fields.{fields-most, fields-small}
-use Rattle.groups.specs.Reads.{unitBy, behind, apart, toTail}
+use Rattle.groups.specs.Layouts.{unitBy, behind, apart, toTail}
 use Rattle.groups.proofs.Fours.{groups-next, controls-next, fields-next, controls-count, controls-small, groups-small, groups-size, stream-size}
-use Rattle.groups.proofs.Grouped.{First, Chain, good, whole, Holds}
+use Rattle.groups.proofs.Grouped.{First, Chain, good, unit-faulty, whole, Holds}
 
 -- ---- group of four: the data follows its control byte
-pub unit-groups : (body : List ℕ) → unitGroups body ≡ unitBy behind body
-unfolding unitGroups
-unit-groups body = refl
-
 record GroupsAt (body : List ℕ) (at : ℕ) (xs : List ℕ) : Type 0 where
   pub inside : at ≤ length body
   pub bytes : drop at body ≡ writeGroups xs
@@ -68,12 +65,14 @@ groups-together body p xs some first rest =
 groups-chain : (body : List ℕ) → Chain behind body (λ p. GroupsAt body (p .head .byte))
 groups-chain body = record { apart = groups-apart body; together = groups-together body }
 
-groups-whole : (body : List ℕ) → Below 256 body → Whole (unitBy behind body) always (toLast body) (Holds behind body (λ p. GroupsAt body (p .head .byte)) (groups-chain body))
+groups-whole : (body : List ℕ) → Below 256 body
+    → Whole (unitBy behind body) always (toLast body) (Holds behind body (λ p. GroupsAt body (p .head .byte)) (groups-chain body))
 unfolding writeGroups joined fours
 groups-whole body low =
     whole behind body (λ p. GroupsAt body (p .head .byte)) (groups-chain body) (toLast body) low
     (λ p h. let n = sym (length-drop (p .head .byte) body) ∙ ap length (h .bytes) in eq-eqb (p .head .byte) (length body) (omega (arith, h .inside)))
-    (λ p e. let q = eqb-true (p .head .byte) (length body) e in record { inside = omega arith; bytes = drop-of-length-le body {i = p .head .byte} (omega arith) })
+    (λ p e. let q = eqb-true (p .head .byte) (length body) e in
+    record { inside = omega arith; bytes = drop-of-length-le body {i = p .head .byte} (omega arith) })
 
 groups-forth : (xs : List ℕ) → Below numberLimit xs → readCode codeGroups (writeGroups xs) (length xs) ≡ given xs
 unfolding readCode unitGroups
@@ -93,14 +92,19 @@ groups-back body n xs low e =
     }
 
 pub lawful-groups : Lawful codeGroups
-unfolding unitGroups
+unfolding unitGroups groupCount
 lawful-groups =
     record {
       good = λ body low. good behind body;
+      begins = λ body n. tt;
+      faulty = λ body left p. unit-faulty behind body left p;
+      fresh = spare-always [];
       forth = groups-forth;
       back = groups-back;
       most = λ xs small. omega (arith, groups-size xs, fields-most xs);
       bytes = λ xs small. groups-small xs;
+      grows = λ k n h. omega arith;
+      nine = λ n. omega arith;
     }
 
 -- ---- Stream VByte: control bytes and data apart
@@ -126,7 +130,8 @@ stream-apart body p xs some h =
     let cons : getD body at 0 ∷ take (groupCount (length (drop 4 xs))) (drop (suc at) body) ≡ control ys ∷ map control (fours (drop 4 xs)) =
     ap (take (suc (groupCount (length (drop 4 xs))))) (sym (drop-cons body at 0 there)) ∙ (rw m at (h .controls)) ∙ controls-next xs some in
     let split = h .bytes ∙ fields-next xs in
-    let n : length (fields ys) + length (fields (drop 4 xs)) ≡ length body - from = sym (length-append (fields ys) (fields (drop 4 xs))) ∙ sym (ap length split) ∙ length-drop from body in
+    let n : length (fields ys) + length (fields (drop 4 xs)) ≡ length body - from =
+    sym (length-append (fields ys) (fields (drop 4 xs))) ∙ sym (ap length split) ∙ length-drop from body in
     let rest : drop (from + length (fields ys)) body ≡ fields (drop 4 xs) =
     sym (drop-drop (length (fields ys)) from body) ∙ rw split (drop-append-seam (fields ys) (fields (drop 4 xs))) in (
       record { there = there; byte = cc; is = rw rest split },
@@ -159,7 +164,8 @@ unfolding fields joined fours groupCount
 stream-whole body low =
     whole apart body (StreamHolds body) (stream-chain body) (toTail body) low
     (λ p h. let n = sym (length-drop (p .tail .byte) body) ∙ ap length (h .bytes) in eq-eqb (p .tail .byte) (length body) (omega (arith, h .inside)))
-    (λ p e. let q = eqb-true (p .tail .byte) (length body) e in record { inside = omega arith; controls = refl; bytes = drop-of-length-le body {i = p .tail .byte} (omega arith) })
+    (λ p e. let q = eqb-true (p .tail .byte) (length body) e in
+    record { inside = omega arith; controls = refl; bytes = drop-of-length-le body {i = p .tail .byte} (omega arith) })
 
 stream-small : (xs : List ℕ) → Below 256 (writeStream xs)
 unfolding writeStream
@@ -181,8 +187,8 @@ stream-forth xs small =
     let body = writeStream xs in
     let fits : groupCount (length xs) ≤ length body = omega (arith, stream-size xs) in
     rw (le-leb (groupCount (length xs)) (length body) fits)
-    (read-written (unitBy apart body) always (toTail body) (good apart body) _ (stream-whole body (stream-small xs)) [] (atControl 0 (groupCount (length xs))) xs
-    (stream-at xs, small))
+    (read-written (unitBy apart body) always (toTail body) (good apart body) _ (stream-whole body (stream-small xs)) []
+    (atControl 0 (groupCount (length xs))) xs (stream-at xs, small))
 
 stream-back : (body : List ℕ) (n : ℕ) (xs : List ℕ) → Below 256 body → readCode codeStream body n ≡ given xs → Read codeStream body n xs
 unfolding readCode unitStream writeStream
@@ -200,12 +206,17 @@ stream-back body n xs low e =
     }
 
 pub lawful-stream : Lawful codeStream
-unfolding unitStream
+unfolding unitStream groupCount
 lawful-stream =
     record {
       good = λ body low. good apart body;
+      begins = λ body n. need-faulty (leb (groupCount n) (length body)) _ tt;
+      faulty = λ body left p. unit-faulty apart body left p;
+      fresh = spare-always [];
       forth = stream-forth;
       back = stream-back;
       most = λ xs small. omega (arith, stream-size xs, fields-most xs);
       bytes = λ xs small. stream-small xs;
+      grows = λ k n h. omega arith;
+      nine = λ n. omega arith;
     }

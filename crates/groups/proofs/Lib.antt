@@ -5,7 +5,5 @@ pub mod OneGroup
 pub mod Grouped
 pub mod Laws
 pub mod Steps
-pub mod Answered
 pub mod Puts
-pub mod Turns
 pub mod Taking

@@ -5,7 +5,7 @@ use mathlib.Core.Path.{_≡_, refl, sym, ap, ap₂, _∙_, subst}
 use mathlib.Core.List.{List, [], _∷_, _++_, map}
 use native.Mathlib.Omega.{arith}
 use lib.Dec.{leb, ltb, eqb}
-use lib.ListN.{length, getD, take, drop, length-append, length-drop, take-append-drop}
+use lib.ListN.{length, getD, take, drop, length-append, take-append-drop}
 use lib.Seq.{drop-drop}
 use borrow.Author.Tests.{lt-ltb, le-leb, eq-eqb, ltb-true, leb-true, eqb-true}
 use Rattle.meaning.specs.Answer.{given}
@@ -15,10 +15,10 @@ use Rattle.meaning.specs.Groups.{controlOf, lengthsIn, control, groupIn, groupA
 use Rattle.meaning.specs.Limits.{fault, numberLimit}
 use Rattle.meaning.specs.Lists.{sum}
 use Rattle.meaning.specs.Places.{Below}
-use Rattle.meaning.proofs.Answers.{bind-given, need-given}
+use Rattle.meaning.proofs.Answers.{Faulty, bind-given, need-given, bind-faulty, need-faulty}
 use Rattle.meaning.proofs.Bounds.{below-drop}
-use Rattle.fields.proofs.Fields.{fields-length, fields-written, fields-back}
-use Rattle.groups.proofs.Controls.{control-in, control-none, lengths-control, lengths-many, lengths-some}
+use Rattle.fields.proofs.Fields.{fields-length, fields-written, fields-back, fields-faulty}
+use Rattle.groups.proofs.Controls.{control-in, control-none, lengths-control, lengths-many}
 
 -- ---- written
 pub group-written : (xs rest : List ℕ) → Below numberLimit xs → groupIn (length xs) (control xs) (fields xs ++ rest) ≡ given xs
@@ -27,7 +27,8 @@ group-written xs rest small =
     let there : sum (map byteLength xs) ≤ length (fields xs ++ rest) = simp length-append (omega (arith, fields-length xs)) in
     rw (control-in xs, le-leb _ _ there, eq-eqb _ 0 (control-none xs)) (fields-written xs rest small)
 
-pub written-at : (body xs rest : List ℕ) (left at from : ℕ) → at < length body → getD body at 0 ≡ control xs → drop from body ≡ fields xs ++ rest → length xs ≡ min 4 left → Below numberLimit xs
+pub written-at : (body xs rest : List ℕ) (left at from : ℕ) → at < length body → getD body at 0 ≡ control xs → drop from body ≡ fields xs ++ rest
+    → length xs ≡ min 4 left → Below numberLimit xs
     → groupAt body left at from ≡ given (from + length (fields xs), xs)
 unfolding groupAt
 written-at body xs rest left at from there byte is many small =
@@ -107,15 +108,6 @@ many-at body left at from t e = group-many (min 4 left) (getD body at 0) (drop f
 pub there-at : (body : List ℕ) (left at from : ℕ) (t : ℕ × List ℕ) → groupAt body left at from ≡ given t → at < length body
 there-at body left at from t e = stands body left at from t e .there
 
--- a group that holds a number ends within the body, after its data begins
-pub inside-at : (body : List ℕ) (left at from : ℕ) (t : ℕ × List ℕ) → 0 < left → groupAt body left at from ≡ given t → (from < t .0) × (t .0 ≤ length body)
-inside-at body left at from t some e =
-    let s = stands body left at from t e in
-    let p = passed (min 4 left) (getD body at 0) (drop from body) (t .1) (s .group) in
-    let l = length-drop from body in
-    let k = lengths-some (min 4 left) (getD body at 0) in
-    (omega (arith, s .ends), omega (arith, s .ends, p .there))
-
 -- what reads as a group at offsets of a body is that group, and its data is followed by what the body goes on with
 pub record GroupAt (body : List ℕ) (at from : ℕ) (t : ℕ × List ℕ) : Type 0 where
   pub byte : getD body at 0 ≡ control (t .1)
@@ -134,3 +126,14 @@ back-at body left at from t low e =
       is = g .is ∙ ap (λ (l : List ℕ). fields (t .1) ++ l) (drop-drop (length (fields (t .1))) from body ∙ ap (λ (m : ℕ). drop m body) (sym n));
       small = g .small;
     }
+
+-- ---- whatever a group is refused by is a fault
+group-faulty : (k c : ℕ) (bytes : List ℕ) → Faulty (groupIn k c bytes)
+unfolding groupIn
+group-faulty k c bytes = need-faulty (leb (sum (lengthsIn k c)) (length bytes)) _ (need-faulty (eqb (c / 4 ^ k) 0) _ (fields-faulty (lengthsIn k c) bytes))
+
+pub faulty-at : (body : List ℕ) (left at from : ℕ) → Faulty (groupAt body left at from)
+unfolding groupAt
+faulty-at body left at from =
+    need-faulty (ltb at (length body)) _
+    (bind-faulty (groupIn (min 4 left) (getD body at 0) (drop from body)) _ (group-faulty (min 4 left) (getD body at 0) (drop from body)) (λ xs. tt))

@@ -5,7 +5,7 @@ use mathlib.Core.List.{List, [], _∷_, _++_}
 use native.Mathlib.Nat.{add-zero, add-assoc, sub-zero}
 use native.Mathlib.Numerals.{add-one}
 use native.Mathlib.Omega.{arith}
-use lib.ListN.{length, getD, take, drop, length-append, length-take, length-drop}
+use lib.ListN.{length, getD, take, drop, set, length-append, length-take, length-drop}
 use lib.Seq.{sets, length-sets, take-nil, take-all, take-take, drop-drop, drop-cons}
 use Rattle.meaning.specs.Fields.{byteLength, fewest, fields}
 use Rattle.meaning.specs.Groups.{fours, groupCount, controlOf, control, writeGroups}
@@ -14,7 +14,7 @@ use Rattle.meaning.specs.Places.{Wrote, part}
 use Rattle.meaning.specs.declared.Offset.{Offset}
 use Rattle.meaning.proofs.Stores.{sets-append}
 use Rattle.meaning.proofs.Tests.{by-order}
-use Rattle.fields.proofs.Fields.{fields-cons, fields-most}
+use Rattle.fields.proofs.Fields.{few-length, fields-cons, fields-most}
 use Rattle.groups.specs.Parts.{fieldsOf, controlsOf, groupsOf}
 use Rattle.groups.proofs.Fours.{groups-next, controls-next, controls-count, groups-size}
 
@@ -28,32 +28,42 @@ module _ (bytes : ℕ → ℕ → List ℕ) (from n at : ℕ) (out₀ : List ℕ
   pub put-start : PutSo out₀ at 0
   put-start = record { most = omega arith; here = rw (add-zero from, sub-zero n); ends = rw (add-zero from, sub-zero n) }
 
-  module _ (out : List ℕ) (to i : ℕ) (so : PutSo out to i) where
-    pub put-long : length out ≡ length out₀
-    put-long = sym (length-sets out to (bytes (from + i) (n - i))) ∙ ap length (so .here) ∙ length-sets out₀ at (bytes from n)
+module _ {bytes : ℕ → ℕ → List ℕ} {from n at : ℕ} {out₀ out : List ℕ} {to i : ℕ} (so : PutSo bytes from n at out₀ out to i) where
+  pub put-long : length out ≡ length out₀
+  put-long = sym (length-sets out to (bytes (from + i) (n - i))) ∙ ap length (so .here) ∙ length-sets out₀ at (bytes from n)
 
-    -- those of k numbers have been put
-    pub put-turn : (k : ℕ) (front out′ : List ℕ) (to′ : Offset) → i + k ≤ n → bytes (from + i) (n - i) ≡ front ++ bytes (from + i + k) (n - i - k) → Wrote front to out out′ to′ → PutSo out′ (to′ .byte) (i + k)
-    put-turn k front out′ to′ h e p =
-        let m : n - i - k ≡ n - (i + k) = omega arith in
-        let e′ : bytes (from + i) (n - i) ≡ front ++ bytes (from + (i + k)) (n - (i + k)) = e ∙ rw (add-assoc from i k, m) in
-        let l = ap length e′ ∙ length-append front (bytes (from + (i + k)) (n - (i + k))) in
-        record {
-          most = h;
-          here = rw (p .here, p .ends) (sets-append front (bytes (from + (i + k)) (n - (i + k))) out to ∙ ap (sets out to) (sym e′)) ∙ so .here;
-          ends = omega (arith, p .ends, so .ends);
-        }
+  -- those of k numbers have been put
+  pub put-turn : (k : ℕ) {front out′ : List ℕ} {to′ : Offset} → i + k ≤ n → bytes (from + i) (n - i) ≡ front ++ bytes (from + i + k) (n - i - k)
+      → Wrote front to out out′ to′ → PutSo bytes from n at out₀ out′ (to′ .byte) (i + k)
+  put-turn k {front} h e p =
+      let m : n - i - k ≡ n - (i + k) = omega arith in
+      let e′ : bytes (from + i) (n - i) ≡ front ++ bytes (from + (i + k)) (n - (i + k)) = e ∙ rw (add-assoc from i k, m) in
+      let l = ap length e′ ∙ length-append front (bytes (from + (i + k)) (n - (i + k))) in
+      record {
+        most = h;
+        here = rw (p .here, p .ends) (sets-append front (bytes (from + (i + k)) (n - (i + k))) out to ∙ ap (sets out to) (sym e′)) ∙ so .here;
+        ends = omega (arith, p .ends, so .ends);
+      }
 
-    pub put-end : n ≤ i → ((place : ℕ) → bytes place 0 ≡ []) → Wrote (bytes from n) at out₀ out (record { byte = to })
-    put-end h none =
-        let m : n - i ≡ 0 = omega arith in
-        let e : bytes (from + i) (n - i) ≡ [] = rw m (none (from + i)) in
-        record { ends = sym (add-zero to) ∙ ap (λ (l : List ℕ). to + length l) (sym e) ∙ so .ends; here = ap (sets out to) (sym e) ∙ so .here }
+  pub put-end : n ≤ i → ((place : ℕ) → bytes place 0 ≡ []) → Wrote (bytes from n) at out₀ out (record { byte = to })
+  put-end h none =
+      let m : n - i ≡ 0 = omega arith in
+      let e : bytes (from + i) (n - i) ≡ [] = rw m (none (from + i)) in
+      record { ends = sym (add-zero to) ∙ ap (λ (l : List ℕ). to + length l) (sym e) ∙ so .ends; here = ap (sets out to) (sym e) ∙ so .here }
 
 -- bytes put after bytes
-pub put-after : (xs ys : List ℕ) (at : ℕ) (mid end : Offset) (out out₁ out₂ : List ℕ) → Wrote xs at out out₁ mid → Wrote ys (mid .byte) out₁ out₂ end → Wrote (xs ++ ys) at out out₂ end
-put-after xs ys at mid end out out₁ out₂ p q =
+pub put-after : {xs ys : List ℕ} {at : ℕ} {mid end : Offset} {out out₁ out₂ : List ℕ} → Wrote xs at out out₁ mid → Wrote ys (mid .byte) out₁ out₂ end
+    → Wrote (xs ++ ys) at out out₂ end
+put-after {xs} {ys} {at} {out = out} p q =
     record { ends = omega (arith, p .ends, q .ends, length-append xs ys); here = q .here ∙ rw (p .here, p .ends) (sets-append xs ys out at) }
+
+-- one byte put, and one number
+pub put-one : {b v at : ℕ} {out out′ : List ℕ} → out′ ≡ set out at b → b ≡ v → Wrote (v ∷ []) at out out′ (record { byte = at + 1 })
+put-one {at = at} {out = out} e is = record { ends = refl; here = e ∙ ap (set out at) is }
+
+pub put-few : (x : ℕ) {at end : ℕ} {out out′ : List ℕ} → (end ≡ at + byteLength x) × (out′ ≡ sets out at (fewest x))
+    → Wrote (fewest x) at out out′ (record { byte = end })
+put-few x {at = at} e = record { ends = e .0 ∙ ap (λ (m : ℕ). at + m) (sym (few-length x)); here = e .1 }
 
 -- ---- parts of a list
 module _ (xs : List ℕ) where
@@ -124,8 +134,9 @@ module _ (xs : List ℕ) where
     groups-bound = omega (arith, groups-size (part xs from n), fields-bound, part-length xs from n inside)
 
 -- before a group there is room for its control byte
-pub groups-room : (xs : List ℕ) (from n at : ℕ) (out₀ out : List ℕ) (to i : ℕ) → PutSo (groupsOf xs) from n at out₀ out to i → from + n ≤ length xs → i < n → to + 1 ≤ at + 5 * n
-groups-room xs from n at out₀ out to i so inside more =
+pub groups-room : (xs : List ℕ) {from n at : ℕ} {out₀ out : List ℕ} {to i : ℕ} → PutSo (groupsOf xs) from n at out₀ out to i → from + n ≤ length xs → i < n
+    → to + 1 ≤ at + 5 * n
+groups-room xs {from} {n} {i = i} so inside more =
     let next = groups-turn xs (from + i) (n - i) (omega arith) (omega arith) (min 4 (n - i)) refl in
     omega (arith, ap length next, so .ends, groups-bound xs from n inside)
 
@@ -156,5 +167,6 @@ module _ (xs : List ℕ) where
   pub control-3 : (from : ℕ) → from + 3 ≤ length xs → field from + 4 * field (from + 1) + 16 * field (from + 2) ≡ control (part xs from 3)
   control-3 from h = omega (arith, control-next from 3 (omega arith) h, control-2 (from + 1) (omega arith), later from 1)
 
-  pub control-4 : (from : ℕ) → from + 4 ≤ length xs → field from + 4 * field (from + 1) + 16 * field (from + 2) + 64 * field (from + 3) ≡ control (part xs from 4)
+  pub control-4 : (from : ℕ) → from + 4 ≤ length xs
+      → field from + 4 * field (from + 1) + 16 * field (from + 2) + 64 * field (from + 3) ≡ control (part xs from 4)
   control-4 from h = omega (arith, control-next from 4 (omega arith) h, control-3 (from + 1) (omega arith), later from 1, later from 2)

@@ -1,5 +1,4 @@
 -- What this crate's helper functions answer, in the meaning's words.
-pub mod Group
+pub mod Layouts
 pub mod Parts
-pub mod Reads
 pub mod Whole

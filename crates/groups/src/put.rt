@@ -1,7 +1,7 @@
 // Control bytes and data put into an output.
-use crate::group::at_most_four;
 use fields::byte_length;
 use fields::put_fewest;
+use leaves::lesser;
 use leaves::put;
 use meaning::Offset;
 use meaning::Place;
@@ -54,7 +54,7 @@ pub fn put_controls(list: &[u32], from: Place, n: usize, out: &mut [u8], at: Off
     let mut to = at.byte;
     let mut i: usize = 0;
     while i < n {
-        let k = at_most_four(n - i);
+        let k = lesser(4, n - i);
         let place = first + i;
         put(out, to, control_of(list, Place { number: place }, k));
         to += 1;

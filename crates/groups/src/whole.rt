@@ -1,29 +1,28 @@
-// Whole groups of four, read where 16 bytes of data are there: each number is one load of four bytes. Nothing is refused here, so at anything else
-// the loop stops, and the loop that tests everything goes on from there.
+// Whole groups of four, taken where 16 bytes of data are there: each number is one load of four bytes. Nothing is refused here: at anything else the
+// loop stops.
+use crate::group::bytes_from;
 use fields::word_at;
+use leaves::lesser;
+use leaves::taken;
 use leaves::wide;
+use meaning::Bit;
+use meaning::Offset;
+use meaning::Place;
+use meaning::Position;
+use meaning::Taken;
 ghost use mathlib.Core.Path.{_≡_};
-ghost use Prim.Native.Nat.{_+_, _<_, _≤_, _/_};
+ghost use Prim.Native.Nat.{_+_, _<_, _≤_};
 ghost use lib.ListN.{length, take, drop};
 ghost use Rattle.meaning.specs.Bytes.{numberOf};
-ghost use Rattle.meaning.specs.Codes.{toLast};
-ghost use Rattle.meaning.specs.Groups.{groupCount};
-ghost use Rattle.meaning.specs.Places.{Target};
-ghost use Rattle.meaning.specs.Positions.{atByte, atControl};
-ghost use Rattle.groups.specs.Reads.{Reads, behind, apart, toTail};
-ghost use Rattle.groups.specs.Whole.{largestNumbers, Room, Taken};
+ghost use Rattle.meaning.specs.Codes.{codeGroups, codeStream};
+ghost use Rattle.meaning.specs.Places.{Target, Took};
+ghost use Rattle.groups.specs.Whole.{largestNumbers, Room, GroupTaken};
 
 // The largest number of one, two, three and four bytes. A loop lends a copy: a constant would be stored anew at each use.
 const LARGEST: [u32; 4] = [255, 65535, 16777215, 4294967295];
 
 // The least number that needs one, two, three and four bytes.
 const LEAST: [u32; 4] = [0, 256, 65536, 16777216];
-
-// How many numbers were read, and where their data ends.
-pub struct Done {
-    pub numbers: usize,
-    pub end: usize,
-}
 
 // The number whose field says f, where four bytes are there.
 fn field_at(body: &[u8], at: usize, f: usize, largest: &[u32; 4]) -> u32
@@ -44,19 +43,19 @@ fn take_whole(
     to: usize,
 ) -> usize
     requires { ⌜ Room (now body) c from (now largest) (now least) (now work) to ⌝ }
-    ensures { λ r. ⌜ Taken (now (body .entry)) c from (now (work .entry)) to (now (work .exit)) r ⌝ }
+    ensures { λ r. ⌜ GroupTaken (now (body .entry)) c from (now (work .entry)) to (now (work .exit)) r ⌝ }
 {
     let a = c % 4;
     let w = field_at(body, from, a, largest);
-    let second = from + a + 1;
+    let second = from + a;
     let b = c / 4 % 4;
-    let x = field_at(body, second, b, largest);
-    let third = second + b + 1;
+    let x = field_at(body, second + 1, b, largest);
+    let third = second + b;
     let d = c / 16 % 4;
-    let y = field_at(body, third, d, largest);
-    let fourth = third + d + 1;
+    let y = field_at(body, third + 2, d, largest);
+    let fourth = third + d;
     let e = c / 64;
-    let z = field_at(body, fourth, e, largest);
+    let z = field_at(body, fourth + 3, e, largest);
     if w < least[a] {
         return 0;
     }
@@ -73,73 +72,96 @@ fn take_whole(
     work[to + 1] = x;
     work[to + 2] = y;
     work[to + 3] = z;
-    fourth + e + 1
+    fourth + e + 4
 }
 
-// Code 2: whole groups from the first on, as far as they are plain.
-pub fn whole_groups(body: &[u8], n: usize, work: &mut [u32], first: usize) -> Done
-    requires { ⌜ Target (now body) (now work) first n ⌝ }
-    ensures { λ r. ⌜ Reads behind (now (body .entry)) (toLast (now (body .entry))) n (atByte 0) (now (work .entry)) first (now (work .exit)) (r .numbers) (atByte (r .end)) × (r .end ≤ length (now (body .entry))) ⌝ }
+// Code 2: takes whole groups from a position on into work, as far as they are plain and there is room for them.
+pub fn take_groups(
+    body: &[u8],
+    left: usize,
+    at: Position,
+    work: &mut [u32],
+    from: Place,
+    room: usize,
+) -> Taken
+    requires { ⌜ Target (now body) (now work) (from .number) room ⌝ }
+    ensures { λ r. ⌜ Took codeGroups (now (body .entry)) left at room (from .number) (now (work .entry)) (now (work .exit)) r ⌝ }
 {
+    let head = at.head;
+    let first = from.number;
     let largest = LARGEST;
     let least = LEAST;
-    let mut i: usize = 0;
-    let mut at: usize = 0;
-    while i + 4 <= n {
-        if body.len() - at < 17 {
-            return Done {
-                numbers: i,
-                end: at,
-            };
+    let plain = bytes_from(body.len(), Offset { byte: 16 });
+    let mut limit = lesser(left, room) / 4;
+    let mut units: usize = 0;
+    let mut to = head.byte;
+    while units < limit {
+        if plain <= to {
+            limit = 0;
+            continue;
         }
-        let c = wide(body[at]) as usize;
-        let end = take_whole(body, c, at + 1, &largest, &least, work, first + i);
+        let c = wide(body[to]) as usize;
+        let end = take_whole(body, c, to + 1, &largest, &least, work, first + 4 * units);
         if end == 0 {
-            return Done {
-                numbers: i,
-                end: at,
-            };
-        }
-        at = end;
-        i += 4;
-    }
-    Done {
-        numbers: i,
-        end: at,
-    }
-}
-
-// Code 4: whole groups from the first on, as far as they are plain, with the data after all control bytes.
-pub fn whole_stream(body: &[u8], n: usize, groups: usize, work: &mut [u32], first: usize) -> Done
-    requires { ⌜ Target (now body) (now work) first n × (groups ≡ groupCount n) × (groups ≤ length (now body)) ⌝ }
-    ensures { λ r. ⌜ Reads apart (now (body .entry)) (toTail (now (body .entry))) n (atControl 0 groups) (now (work .entry)) first (now (work .exit)) (r .numbers) (atControl (r .numbers / 4) (r .end)) ⌝ }
-{
-    let largest = LARGEST;
-    let least = LEAST;
-    let mut i: usize = 0;
-    let mut at: usize = 0;
-    let mut to = groups;
-    while i + 4 <= n {
-        if body.len() - to < 16 {
-            return Done {
-                numbers: i,
-                end: to,
-            };
-        }
-        let c = wide(body[at]) as usize;
-        let end = take_whole(body, c, to, &largest, &least, work, first + i);
-        if end == 0 {
-            return Done {
-                numbers: i,
-                end: to,
-            };
+            limit = 0;
+            continue;
         }
         to = end;
-        at += 1;
-        i += 4;
+        units += 1;
     }
-    Done {
-        numbers: i,
-        end: to,
+    let next = Position {
+        head: Offset { byte: to },
+        tail: Offset { byte: 0 },
+        bit: Bit { index: 0 },
+    };
+    taken(at, 4 * units, units, 0, next)
+}
+
+// Code 4: takes whole groups from a position on into work, as far as they are plain and there is room for them. A position whose data stands before
+// its control byte is not plain.
+pub fn take_stream(
+    body: &[u8],
+    left: usize,
+    at: Position,
+    work: &mut [u32],
+    from: Place,
+    room: usize,
+) -> Taken
+    requires { ⌜ Target (now body) (now work) (from .number) room ⌝ }
+    ensures { λ r. ⌜ Took codeStream (now (body .entry)) left at room (from .number) (now (work .entry)) (now (work .exit)) r ⌝ }
+{
+    let head = at.head;
+    let tail = at.tail;
+    let first = from.number;
+    let largest = LARGEST;
+    let least = LEAST;
+    let plain = bytes_from(body.len(), Offset { byte: 15 });
+    let mut limit = lesser(left, room) / 4;
+    let mut units: usize = 0;
+    let mut control = head.byte;
+    let mut to = tail.byte;
+    if to < control {
+        return taken(at, 0, 0, 0, at);
     }
+    while units < limit {
+        if plain <= to {
+            limit = 0;
+            continue;
+        }
+        let c = wide(body[control]) as usize;
+        let end = take_whole(body, c, to, &largest, &least, work, first + 4 * units);
+        if end == 0 {
+            limit = 0;
+            continue;
+        }
+        to = end;
+        control += 1;
+        units += 1;
+    }
+    let next = Position {
+        head: Offset { byte: control },
+        tail: Offset { byte: to },
+        bit: Bit { index: 0 },
+    };
+    taken(at, 4 * units, units, 0, next)
 }

@@ -1,16 +1,16 @@
 -- What `good_plan`, `passes_plan`, `worst_code` and `worst_plan` answer, and a bound on every worst size. Assumes nothing.
 use Prim.Native.Nat.{ℕ, zero, suc, _+_, _*_, _/_, _≤_}
-use mathlib.Core.Path.{_≡_, sym, _∙_}
+use mathlib.Core.Path.{_≡_, refl, sym, _∙_}
 use mathlib.Core.Bool.{Bool, true, false, _&&_, cond}
 use mathlib.Core.List.{List}
 use native.Mathlib.Omega.{arith}
 use lib.Dec.{leb, eqb}
 use lib.ListN.{getD}
-use borrow.Author.Tests.{ne-eqb}
-use Rattle.meaning.specs.Codes.{codeVByte, codeGroups, codeG8IU, codeStream, codeGamma, codeDelta, isCode, codeOf}
+use Rattle.meaning.specs.Codes.{isCode, codeOf}
 use Rattle.meaning.specs.Groups.{groupCount}
 use Rattle.meaning.specs.Limits.{mostNumbers, mostStages}
 use Rattle.meaning.specs.Plan.{Plan, bad, code, reference, differences, runs, planSize, planAt, worstPlan}
+use Rattle.meaning.proofs.Codes.{by-code, by-number}
 
 -- ---- a test in two turns
 pub and-both : (r s a b : Bool) → r ≡ a → r ≡ true → s ≡ b → s ≡ a && b
@@ -21,23 +21,13 @@ and-not r a b e t = let h : a ≡ false = sym e ∙ t in rw h
 
 -- ---- the worst size of a code
 pub worst-else : (k n : ℕ) → (k ≡ 1 → ⊥) → (k ≡ 2 → ⊥) → (k ≡ 3 → ⊥) → (k ≡ 4 → ⊥) → (k ≡ 5 → ⊥) → (43 * n + 7) / 8 ≡ codeOf k .worst n
-unfolding codeOf
-worst-else k n h₁ h₂ h₃ h₄ h₅ = rw (ne-eqb k 1 h₁, ne-eqb k 2 h₂, ne-eqb k 3 h₃, ne-eqb k 4 h₄, ne-eqb k 5 h₅)
+worst-else k n h₁ h₂ h₃ h₄ h₅ =
+    by-number (λ d. (43 * n + 7) / 8 ≡ d .worst n) k (λ e. absurd (h₁ e)) (λ e. absurd (h₂ e)) (λ e. absurd (h₃ e)) (λ e. absurd (h₄ e)) (λ e. absurd (h₅ e)) refl
 
 -- gamma has the largest
-by-codes : (n : ℕ) → n ≤ mostNumbers → (a b c d e : Bool)
-    → (cond a codeVByte (cond b codeGroups (cond c codeG8IU (cond d codeStream (cond e codeGamma codeDelta))))) .worst n ≤ 8320
-unfolding groupCount
-by-codes n h true b c d e = omega arith
-by-codes n h false true c d e = omega arith
-by-codes n h false false true d e = omega arith
-by-codes n h false false false true e = omega arith
-by-codes n h false false false false true = omega arith
-by-codes n h false false false false false = omega arith
-
 code-most : (k n : ℕ) → n ≤ mostNumbers → codeOf k .worst n ≤ 8320
-unfolding codeOf
-code-most k n h = by-codes n h (eqb k 1) (eqb k 2) (eqb k 3) (eqb k 4) (eqb k 5)
+unfolding groupCount
+code-most k n h = by-code (λ d. d .worst n ≤ 8320) (omega arith) (omega arith) (omega arith) (omega arith) (omega arith) (omega arith) k
 
 -- ---- the worst size of a plan is within what its stages can make of the largest code
 most : ℕ → ℕ

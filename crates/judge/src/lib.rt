@@ -1,12 +1,17 @@
 // Plans: judged for a kind, and their worst size. A plan of any length and any bytes is answered.
 use crate::stage::plan_end;
-use crate::tree::RISING;
 use crate::tree::good_plan;
 use crate::tree::passes_plan;
 use crate::tree::worst_plan;
+use meaning::BAD_ORDERS;
 use meaning::Judged;
+use meaning::MALFORMED;
+use meaning::MOST_NUMBERS;
 use meaning::Offset;
+use meaning::PLAN_BYTES;
+use meaning::RISING;
 use meaning::Sized;
+use meaning::UNFIT;
 ghost use mathlib.Core.Path.{_≡_};
 ghost use lib.Dec.{eqb};
 ghost use lib.ListN.{drop};
@@ -19,23 +24,8 @@ ghost use Rattle.meaning.specs.Says.{judgedSays, sizedSays};
 pub mod stage;
 pub mod tree;
 
-// A plan's length.
-const PLAN_BYTES: usize = 15;
-
 // So many stages may stand over a code: depth 4, the code counting 1.
 const MOST_STAGES: usize = 3;
-
-// A list's numbers.
-const MOST_NUMBERS: usize = 1024;
-
-// Refused: a malformed plan.
-const MALFORMED: u8 = 3;
-
-// Refused: a plan not passed for its kind.
-const UNFIT: u8 = 4;
-
-// Refused: a kind above 1, or a count above 1,024.
-const BAD_ORDERS: u8 = 11;
 
 // Whether every byte from an offset on is 0.
 fn blank_from(plan: &[u8], at: Offset) -> bool

@@ -2,18 +2,14 @@
 use crate::stage::Stage;
 use crate::stage::plan_end;
 use crate::stage::stage_at;
+use meaning::ANY;
 use meaning::Offset;
+use meaning::RISING;
 ghost use mathlib.Core.Path.{_≡_};
 ghost use Prim.Native.Nat.{_≤_};
 ghost use Rattle.meaning.specs.Codes.{codeOf, worstGroups};
 ghost use Rattle.meaning.specs.Limits.{mostNumbers, mostStages};
 ghost use Rattle.meaning.specs.Plan.{planAt, good, passes, worstPlan};
-
-// Kind 0: any list.
-pub const ANY: u8 = 0;
-
-// Kind 1: no number below the one before.
-pub const RISING: u8 = 1;
 
 // Whether it is well formed up to its end.
 pub fn good_plan(plan: &[u8], at: Offset, stages: usize) -> bool

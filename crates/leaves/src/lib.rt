@@ -1,8 +1,11 @@
-// Small functions that several codes share.
+// Small functions that several crates share.
+use meaning::Position;
+use meaning::Taken;
 use meaning::Unit;
 ghost use mathlib.Core.Path.{_≡_};
-ghost use Prim.Native.Nat.{_<_};
+ghost use Prim.Native.Nat.{_<_, _^_, min};
 ghost use lib.ListN.{set};
+ghost use Rattle.meaning.specs.Places.{Ends};
 ghost use Rattle.meaning.specs.Says.{unitRefusal};
 
 // A byte as a number: that it is below 256 is then known wherever it goes.
@@ -10,6 +13,30 @@ pub fn wide(x: u8) -> u32
     ensures { λ r. ⌜ (r ≡ x) × (r < 256) ⌝ }
 {
     x as u32
+}
+
+// A number that counts: that it is below 2^32 is then known.
+pub fn whole(x: u32) -> usize
+    ensures { λ r. ⌜ (r ≡ x) × (r < 2 ^ 32) ⌝ }
+{
+    x as usize
+}
+
+// A number that is to be summed: that it is below 2^32 is then known.
+pub fn long(x: u32) -> u64
+    ensures { λ r. ⌜ (r ≡ x) × (r < 2 ^ 32) ⌝ }
+{
+    x as u64
+}
+
+// The lesser of two.
+pub fn lesser(a: usize, b: usize) -> usize
+    ensures { λ r. ⌜ r ≡ min a b ⌝ }
+{
+    if a < b {
+        return a;
+    }
+    b
 }
 
 // A byte is put at an offset of an output; past its end nothing is put.
@@ -28,5 +55,26 @@ pub fn refusal_of(u: Unit) -> u8
     match u {
         Unit::Next(_, _) => 0,
         Unit::Refused(e) => e,
+    }
+}
+
+// So many numbers of so many units were taken from a position on, the last left so many bytes spare, and the next unit begins at another position;
+// where none was taken, the position stays.
+pub fn taken(at: Position, count: usize, units: usize, spare: usize, next: Position) -> Taken
+    ensures { λ r. ⌜ Ends at count units spare next r ⌝ }
+{
+    if count == 0 {
+        return Taken {
+            count,
+            units,
+            next: at,
+            spare,
+        };
+    }
+    Taken {
+        count,
+        units,
+        next,
+        spare,
     }
 }

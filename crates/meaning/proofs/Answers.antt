@@ -1,7 +1,7 @@
 -- Laws of answers. Assumes nothing.
 use Prim.Native.Nat.{ℕ}
 use mathlib.Core.Path.{_≡_, refl, subst}
-use mathlib.Core.Bool.{Bool, true, false}
+use mathlib.Core.Bool.{Bool, true, false, cond}
 use native.Mathlib.Omega.{arith}
 use Rattle.meaning.specs.Answer.{Answer, given, refused, bind, need}
 use Rattle.meaning.specs.Limits.{fault}
@@ -37,6 +37,10 @@ bind-faulty (refused e) k h j = h
 pub need-faulty : {A : Type 0} (b : Bool) (m : Answer A) → Faulty m → Faulty (need b fault m)
 need-faulty true m h = h
 need-faulty false m h = refl
+
+pub cond-faulty : {A : Type 0} (b : Bool) (m n : Answer A) → Faulty m → Faulty n → Faulty (cond b m n)
+cond-faulty true m n h k = h
+cond-faulty false m n h k = k
 
 pub refused-faulty : {A : Type 0} (m : Answer A) (e : ℕ) → Faulty m → m ≡ refused e → e ≡ fault
 refused-faulty m e h q = subst Faulty q h

@@ -1,13 +1,14 @@
 -- What is proved of every code. Assumes nothing.
-use Prim.Native.Nat.{ℕ, _≤_, _<_}
+use Prim.Native.Nat.{ℕ, _*_, _≤_, _<_}
 use mathlib.Core.Path.{_≡_, ap, _∙_}
 use mathlib.Core.List.{List, []}
 use lib.ListN.{length, getD}
 use Rattle.meaning.specs.Answer.{Answer, given, bind}
 use Rattle.meaning.specs.Limits.{numberLimit}
-use Rattle.meaning.specs.Places.{Below}
+use Rattle.meaning.specs.Places.{Below, Spare}
 use Rattle.meaning.specs.Codes.{Code, readCode, lookCode}
-use Rattle.meaning.proofs.Answers.{bind-given}
+use Rattle.meaning.specs.declared.Position.{Position}
+use Rattle.meaning.proofs.Answers.{Faulty, bind-given}
 use Rattle.meaning.proofs.Units.{Good, look-read}
 
 -- what reads as a list is what is written from it, byte for byte; the list has n numbers, each below 2^32
@@ -19,6 +20,11 @@ pub record Read (c : Code) (body : List ℕ) (n : ℕ) (xs : List ℕ) : Type 0 
 pub record Lawful (c : Code) : Type 0 where
   -- a unit holds a number at least, and none beyond the list
   pub good : (body : List ℕ) → Below 256 body → Good (c .unit body)
+  -- whatever a unit or its start is refused by is a fault
+  pub begins : (body : List ℕ) (n : ℕ) → Faulty (c .start body n)
+  pub faulty : (body : List ℕ) (left : ℕ) (p : Position) → Faulty (c .unit body left p)
+  -- any unit may be the first
+  pub fresh : Spare (c .joins) [] 0
   -- (a) reading what was written gives the list
   pub forth : (xs : List ℕ) → Below numberLimit xs → readCode c (c .write xs) (length xs) ≡ given xs
   -- (b) and back
@@ -26,6 +32,9 @@ pub record Lawful (c : Code) : Type 0 where
   -- (d) the written length is at most the worst size; and what is written are bytes
   pub most : (xs : List ℕ) → Below numberLimit xs → length (c .write xs) ≤ c .worst (length xs)
   pub bytes : (xs : List ℕ) → Below numberLimit xs → Below 256 (c .write xs)
+  -- the worst size grows with the list, by 9 bytes a number at most
+  pub grows : (k n : ℕ) → k ≤ n → c .worst k ≤ c .worst n
+  pub nine : (n : ℕ) → c .worst n ≤ 9 * n
 
 -- (c) where reading succeeds, a lookup at every place gives the number there, whatever the code
 pub look-code : (c : Code) (body : List ℕ) (n : ℕ) (xs : List ℕ) → readCode c body n ≡ given xs → (place : ℕ) → place < length xs

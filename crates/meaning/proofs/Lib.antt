@@ -5,6 +5,9 @@ pub mod Bounds
 pub mod Stores
 pub mod Units
 pub mod Loops
+pub mod Codes
+pub mod Stretches
+pub mod Taking
 pub mod Lawful
 pub mod Computed
 pub mod Examples

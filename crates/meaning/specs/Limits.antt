@@ -21,6 +21,10 @@ planBytes = 15
 abbrev pub mostStages : ℕ
 mostStages = 3
 
+-- no unit of any code holds more numbers
+abbrev pub unitPlaces : ℕ
+unitPlaces = 8
+
 -- kind 0 is any, kind 1 is rising
 abbrev pub any : ℕ
 any = 0

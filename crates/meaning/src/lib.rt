@@ -1,5 +1,52 @@
 // The places, offsets and answers in which every crate speaks. What each answer says in document 01's numbers is in specs/Says.antt.
 
+// Document 01's limits.
+pub const MOST_COLUMNS: usize = 16;
+
+pub const MOST_NUMBERS: usize = 1024;
+
+pub const MOST_BYTES: usize = 65536;
+
+// A plan is so many bytes.
+pub const PLAN_BYTES: usize = 15;
+
+// The kinds: any numbers, or none below the one before.
+pub const ANY: u8 = 0;
+
+pub const RISING: u8 = 1;
+
+// A sheet's first byte, and the bytes of its head and of an entry.
+pub const EDITION: u8 = 1;
+
+pub const HEAD_SIZE: usize = 2;
+
+pub const ENTRY_SIZE: usize = 24;
+
+// The refusals by their numbers in document 01; what each says is in specs/Limits.antt.
+pub const NO_SHEET: u8 = 1;
+
+pub const BAD_TABLE: u8 = 2;
+
+pub const MALFORMED: u8 = 3;
+
+pub const UNFIT: u8 = 4;
+
+pub const NO_COLUMN: u8 = 5;
+
+pub const NO_PLACE: u8 = 6;
+
+pub const NO_ROOM: u8 = 7;
+
+pub const SHORT_WORK: u8 = 8;
+
+pub const FAULT: u8 = 9;
+
+pub const FALLS: u8 = 10;
+
+pub const BAD_ORDERS: u8 = 11;
+
+pub const BAD_BOARD: u8 = 12;
+
 // A place counts numbers.
 pub struct Place {
     pub number: usize,
@@ -28,10 +75,19 @@ pub enum Unit {
     Refused(u8),
 }
 
-// A unit's answer with its numbers beside it, from the array's first place on.
+// A unit's answer with its numbers beside it, from the array's first place on; the places after them are 0.
 pub struct UnitRead {
     pub unit: Unit,
     pub numbers: [u32; 8],
+}
+
+// Units taken one after the other: how many numbers they hold, how many units they are, and where the next unit begins. A next unit may follow them
+// where its first number takes more bytes than the last of them left spare.
+pub struct Taken {
+    pub count: usize,
+    pub units: usize,
+    pub next: Position,
+    pub spare: usize,
 }
 
 // Judging a plan.

@@ -1,6 +1,8 @@
 // Gathered orders taken apart into the slices that the writer takes: a kind, 15 plan bytes and a count each.
 use crate::gathering::Gathered;
-use crate::gathering::MOST_COLUMNS;
+use meaning::BAD_ORDERS;
+use meaning::MOST_COLUMNS;
+use meaning::PLAN_BYTES;
 use meaning::Sized;
 ghost use mathlib.Core.Path.{_≡_};
 ghost use Prim.Native.Nat.{_+_, _≤_};
@@ -10,12 +12,6 @@ ghost use Rattle.meaning.specs.Answer.{amount, filled};
 ghost use Rattle.meaning.specs.Limits.{planBytes};
 ghost use Rattle.meaning.specs.Says.{sizedSays};
 ghost use Rattle.orders.specs.Gathering.{writeGathered};
-
-// A plan's length.
-const PLAN_BYTES: usize = 15;
-
-// Refused: over 16 orders.
-const BAD_ORDERS: u8 = 11;
 
 // A plan's bytes, of which there are 15, are put at an offset of all plans.
 fn put_plan(plan: [u8; 15], plans: &mut [u8], at: usize)

@@ -1,13 +1,11 @@
 // A lent list of orders, gathered by value: the first 16, and how many the list has.
 use crate::Order;
+use meaning::MOST_COLUMNS;
 ghost use mathlib.Core.Path.{_≡_};
 ghost use Prim.Native.Nat.{_<_, min};
 ghost use lib.ListN.{length, getD};
 ghost use Rattle.meaning.specs.Limits.{mostColumns};
 ghost use Rattle.orders.specs.Gathering.{none, empty, stored, gathered};
-
-// The most columns of a sheet.
-pub const MOST_COLUMNS: usize = 16;
 
 pub struct Gathered {
     pub list: [Order; 16],

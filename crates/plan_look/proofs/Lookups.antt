@@ -1,22 +1,35 @@
 -- One number by a plan, stage by stage: what each inner call is asked, and what its answer makes. Assumes nothing.
 use Prim.Native.Nat.{ℕ, zero, suc, _+_, _-_, _*_, _≤_, _<_, min}
 use mathlib.Core.Path.{_≡_, sym, ap, _∙_, fun-ext}
+use mathlib.Core.Bool.{cond}
 use mathlib.Core.List.{List}
+use native.Mathlib.Nat.{zero-add}
 use native.Mathlib.Omega.{arith}
-use lib.ListN.{length, take, drop}
+use lib.Dec.{ltb}
+use borrow.Author.Tests.{lt-ltb, le-ltb}
+use lib.ListN.{length, getD, take, drop}
 use Rattle.meaning.specs.Answer.{Answer, given, refused, bind}
 use Rattle.meaning.specs.Bytes.{wordAt}
 use Rattle.meaning.specs.Codes.{codeOf, lookCode}
 use Rattle.meaning.specs.Limits.{fault}
 use Rattle.meaning.specs.Plan.{Plan, bad, code, reference, differences, runs, planAt, planSize}
 use Rattle.meaning.specs.Stages.{within, total, seek, look}
-use Rattle.codes.specs.Firsts.{Firsts, Looked, Space}
+use Rattle.meaning.specs.declared.Place.{Place}
+use Rattle.meaning.proofs.Tests.{by-order}
+use Rattle.codes.specs.Firsts.{Firsts, Looked}
 use Rattle.codes.specs.declared.First.{First}
-use Rattle.plan_look.specs.Asked.{room, Scope}
-use Rattle.plan_look.specs.Told.{headerIn}
-use Rattle.plan_look.specs.Turns.{Seeks}
-use Rattle.plan_look.proofs.Looks.{bad-at, code-at, reference-short, reference-at, differences-at, runs-refused, runs-at, header-given}
-use Rattle.plan_look.proofs.Seeks.{seek-below}
+use Rattle.stages.specs.Room.{room, Fits}
+use Rattle.stages.proofs.Headers.{Headed, Headless}
+use Rattle.stages.specs.Seeks.{soughtFrom, Within, Seeks}
+use Rattle.stages.specs.declared.Sought.{Sought}
+use Rattle.stages.specs.declared.Sought.the-variants as sought
+use Rattle.stages.proofs.Seeks.{seek-below, seek-stops, seek-none}
+use Rattle.plan_look.specs.Turns.{runOf}
+use Rattle.plan_look.proofs.Looks.{bad-at, code-at, reference-short, reference-at, differences-at, runs-refused, runs-at}
+
+-- what an answer says, by the case that it is
+pub says-so : {T A : Type 0} (says : T → Answer A) {r r′ : T} {a : Answer A} → says r ≡ a → r ≡ r′ → a ≡ says r′
+says-so says e q = sym e ∙ ap says q
 
 -- ---- the work that a lookup lays out for itself
 room-two : (l n : ℕ) → l ≤ 2 → room l n ≤ 5 * n
@@ -26,22 +39,32 @@ room-two (suc zero) n h = omega arith
 room-two (suc (suc zero)) n h = omega arith
 room-two (suc (suc (suc l))) n h = absurd (omega arith)
 
-module _ (body : List ℕ) (n place : ℕ) (s : Looked body n place) where
-  pub sum-scope : (l : ℕ) (w : List ℕ) → l ≤ 2 → length w ≡ 5120 → Scope body l n (place + 1) w 0
-  sum-scope l w h e =
-      record { short = s .short; few = s .few; inside = omega (arith, s .inside); enough = omega (arith, room-two l n h, s .few) }
+pub look-fits : {body : List ℕ} {n place : ℕ} → Looked body n place → {l many : ℕ} {w : List ℕ} → l ≤ 2 → many ≤ n → length w ≡ 5120 → Fits body w l many 0
+look-fits s {l} {many} h m e = record { short = s .short; few = omega (arith, s .few); within = omega (arith, room-two l many h, s .few) }
 
-  module _ (many few : ℕ) (m : many ≤ n) (e : few ≡ min many (place + 1)) where
-    pub run-scope : (l : ℕ) (w : List ℕ) → l ≤ 2 → length w ≡ 5120 → Scope body l many few w 0
-    run-scope l w h q =
-        record { short = s .short; few = omega (arith, s .few); inside = omega arith; enough = omega (arith, room-two l many h, s .few) }
+-- the first lengths, as many as the place and one or as there are runs, are enough to find the run
+module _ (at : ℕ → Answer ℕ) (n place many few : ℕ) (w w′ : List ℕ) (got : First) (e : few ≡ min many (place + 1))
+    (f : Firsts at few 0 w w′ got) where
+  sought-on : (s : Place) → got .count ≤ s .number → s .number ≤ place → seek at n place (many - got .count) (0 + got .count) (s .number)
+      ≡ refused (cond (ltb (got .count) many) (got .refusal) fault)
+  sought-on s a b =
+      by-order (got .count) many
+      (λ h. rw (lt-ltb _ _ h)
+      (seek-stops at n place (many - got .count) (0 + got .count) (s .number) (omega arith) (got .refusal)
+      (rw (zero-add (got .count)) (f .stops (omega arith)))))
+      (λ h. rw (le-ltb _ _ h) (seek-none at n place (many - got .count) (0 + got .count) (s .number) (omega arith)))
 
-    pub run-space : (w : List ℕ) → length w ≡ 1024 → Space body many few w 0
-    run-space w q = record { short = s .short; few = omega (arith, s .few); inside = omega arith; room = omega (arith, s .few) }
-
-pub run-sought : (at : ℕ → Answer ℕ) (n place many few : ℕ) (w w′ : List ℕ) (got : First) (a : Answer ℕ) → few ≡ min many (place + 1)
-    → Firsts at few 0 w w′ got → Seeks 0 n place many w′ got a → a ≡ seek at n place many 0 0
-run-sought at n place many few w w′ got a e f s = sym (s at w (rw e at f))
+  pub run-sought : (r : Sought) → Seeks w′ (got .count) n place 0 r → runOf many got r ≡ seek at n place many 0 0
+  run-sought r s =
+      let told = s .told at many 0 (λ i h. ap at (zero-add i) ∙ f .are i h ∙ ap (λ (x : ℕ). given (getD w′ x 0)) (zero-add i))
+      (omega (arith, f .most)) in
+      by-sought r (s .within) told
+    where
+      by-sought : (r : Sought) → Within (got .count) n place 0 r → seek at n place many 0 0 ≡ soughtFrom at n place many 0 (got .count) r
+          → runOf many got r ≡ seek at n place many 0 0
+      by-sought (sought.At j) h t = ap (λ (k : ℕ). given k) (sym (zero-add (j .number))) ∙ sym t
+      by-sought (sought.After s) h t = sym (t ∙ sought-on s (omega (arith, h .1)) (h .2 (omega arith)))
+      by-sought (sought.Refused z) h t = sym t
 
 -- ---- a plan that is a code
 module _ (p : Plan) (body : List ℕ) (n c : ℕ) (e : p ≡ code c) where
@@ -80,37 +103,37 @@ module _ (p : Plan) (body : List ℕ) (n place : ℕ) where
       pub reference-refused : (z : ℕ) → look q (take (length body - 4) (drop 4 body)) n place ≡ refused z → refused z ≡ look p body n place
       reference-refused z t = sym (reference-at p body n q e m h em place ∙ rw t)
 
-      pub reference-sum : (x y : ℕ) (a : Answer ℕ) → look q (take (length body - 4) (drop 4 body)) n place ≡ given x → y ≡ x → a ≡ within (m + y) → a ≡ look p body n place
+      pub reference-sum : (x y : ℕ) (a : Answer ℕ) → look q (take (length body - 4) (drop 4 body)) n place ≡ given x → y ≡ x → a ≡ within (m + y)
+          → a ≡ look p body n place
       reference-sum x y a t ey u = u ∙ ap (λ (z : ℕ). within (m + z)) ey ∙ sym (reference-at p body n q e m h em place ∙ rw t)
 
 -- ---- runs, of which the second inner plan begins where the first ends
-module _ (p : Plan) (l : ℕ) (bytes : List ℕ) (x m : ℕ) (e : m ≡ x + planSize (planAt l bytes x)) (body : List ℕ) (n place : ℕ) where
-  pub header-refused : (z : ℕ) → headerIn n body ≡ refused z → refused z ≡ look (runs p (planAt l bytes (x + planSize (planAt l bytes x)))) body n place
-  header-refused z h = sym (runs-refused p _ body n z h place)
+module _ (p : Plan) (l : ℕ) (bytes : List ℕ) (x : ℕ) (body : List ℕ) (n place : ℕ) where
+  abbrev runsPlan : Plan
+  runsPlan = runs p (planAt l bytes (x + planSize (planAt l bytes x)))
 
-  module _ (many end : ℕ) (h : headerIn n body ≡ given (many, end)) where
-    found : look (runs p (planAt l bytes (x + planSize (planAt l bytes x)))) body n place
+  pub header-refused : {z : ℕ} → Headless n body z → refused z ≡ look runsPlan body n place
+  header-refused h = sym (runs-refused p _ body n h place)
+
+  module _ (m : ℕ) (e : m ≡ x + planSize (planAt l bytes x)) {many end : ℕ} (h : Headed n body many end) where
+    found : look runsPlan body n place
         ≡ bind (seek (look (planAt l bytes m) (take (length body - end) (drop end body)) many) n place many 0 0) (look p (take (end - 8) (drop 8 body)) many)
-    found = ap (λ (y : ℕ). look (runs p (planAt l bytes y)) body n place) (sym e) ∙ runs-at p (planAt l bytes m) body n many end h place
+    found = ap (λ (y : ℕ). look (runs p (planAt l bytes y)) body n place) (sym e) ∙ runs-at p (planAt l bytes m) body n h place
 
     pub run-refused : (z : ℕ) → seek (look (planAt l bytes m) (take (length body - end) (drop end body)) many) n place many 0 0 ≡ refused z
-        → refused z ≡ look (runs p (planAt l bytes (x + planSize (planAt l bytes x)))) body n place
+        → refused z ≡ look runsPlan body n place
     run-refused z s = sym (found ∙ rw s)
 
-    module _ (j : ℕ) (s : seek (look (planAt l bytes m) (take (length body - end) (drop end body)) many) n place many 0 0 ≡ given j) where
-      pub run-found : (a : Answer ℕ) → a ≡ look p (take (end - 8) (drop 8 body)) many j → a ≡ look (runs p (planAt l bytes (x + planSize (planAt l bytes x)))) body n place
-      run-found a t = t ∙ sym (found ∙ rw s)
+    pub run-found : (j : ℕ) → seek (look (planAt l bytes m) (take (length body - end) (drop end body)) many) n place many 0 0 ≡ given j
+        → (a : Answer ℕ) → a ≡ look p (take (end - 8) (drop 8 body)) many j → a ≡ look runsPlan body n place
+    run-found j s a t = t ∙ sym (found ∙ rw s)
 
 -- the values hold the run that was found
-pub run-looked : (at : ℕ → Answer ℕ) (body inner : List ℕ) (n place many end j : ℕ) → headerIn n body ≡ given (many, end) → seek at n place many 0 0 ≡ given j
+pub run-looked : (at : ℕ → Answer ℕ) {body inner : List ℕ} {n place many end : ℕ} (j : ℕ) → Headed n body many end → seek at n place many 0 0 ≡ given j
     → Looked body n place → length inner ≤ length body → Looked inner many j
-run-looked at body inner n place many end j h s r i =
-    record {
-      short = omega (arith, r .short);
-      few = omega (arith, r .few, header-given n body many end h .few);
-      inside = omega (arith, seek-below at n place many 0 0 j s);
-    }
+run-looked at {n} {place} {many} j h s r i =
+    record { short = omega (arith, r .short); few = omega (arith, r .few, h .few); inside = omega (arith, seek-below at n place many 0 0 j s) }
 
 -- a body's part, asked for the same place
-pub looked-part : (body inner : List ℕ) (n place : ℕ) → Looked body n place → length inner ≤ length body → Looked inner n place
-looked-part body inner n place r h = record { short = omega (arith, r .short); few = r .few; inside = r .inside }
+pub looked-part : {body inner : List ℕ} {n place : ℕ} → Looked body n place → length inner ≤ length body → Looked inner n place
+looked-part r h = record { short = omega (arith, r .short); few = r .few; inside = r .inside }

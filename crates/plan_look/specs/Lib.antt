@@ -1,4 +1,2 @@
--- What is asked, what is told, and what a stage makes of the lookup below it.
-pub mod Asked
-pub mod Told
+-- What a stage makes of the lookup below it.
 pub mod Turns

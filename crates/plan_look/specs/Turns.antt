@@ -1,12 +1,18 @@
 -- What a stage makes of the lookups below it, as the meaning's `look` says it.
-use Prim.Native.Nat.{ℕ, _+_, _≤_, _<_, min}
+use Prim.Native.Nat.{ℕ, _+_, _*_, min}
 use mathlib.Core.Path.{_≡_}
+use mathlib.Core.Bool.{cond}
 use mathlib.Core.List.{List}
-use lib.ListN.{length, getD, take}
-use Rattle.meaning.specs.Answer.{Answer, bind}
+use lib.Dec.{ltb}
+use Rattle.meaning.specs.Answer.{Answer, given, refused, bind}
+use Rattle.meaning.specs.Limits.{fault}
 use Rattle.meaning.specs.Stages.{within, total, seek}
 use Rattle.codes.specs.Firsts.{Firsts}
 use Rattle.codes.specs.declared.First.{First}
+use Rattle.stages.specs.Runs.{runFits}
+use Rattle.stages.specs.declared.Laid.{Laid}
+use Rattle.stages.specs.declared.Sought.{Sought}
+use Rattle.stages.specs.declared.Sought.the-variants as sought
 
 abbrev pub raisedAt : ℕ → (ℕ → Answer ℕ) → ℕ → Answer ℕ
 raisedAt m at i = bind (at i) (λ x. within (m + x))
@@ -18,34 +24,29 @@ summedAt at i = bind (total at (i + 1)) within
 abbrev pub runsAt : ℕ → ℕ → (ℕ → Answer ℕ) → (ℕ → Answer ℕ) → ℕ → Answer ℕ
 runsAt n runs lengths values i = bind (seek lengths n i runs 0 0) values
 
--- so many numbers, and then a refusal
-abbrev pub endedBy : ℕ → ℕ → First
-endedBy count refusal = record { count = count; refusal = refusal }
+-- so many numbers of k, and then a refusal where there are fewer
+unfoldable pub endedBy : ℕ → ℕ → ℕ → First
+endedBy k count refusal = cond (ltb count k) (record { count = count; refusal = refusal }) (record { count = k; refusal = 0 })
 
--- what stood in work as the first numbers of some lookup stands there as those of what a stage makes of it
-abbrev pub Turned : ((ℕ → Answer ℕ) → ℕ → Answer ℕ) → ℕ → List ℕ → First → List ℕ → First → Type 0
-Turned stage from work got work′ r =
-    (at : ℕ → Answer ℕ) (k : ℕ) (before : List ℕ) → Firsts at k from before work got → Firsts (stage at) k from before work′ r
+-- what was got, up to a number that is too large
+unfoldable pub cutAt : First → ℕ → First
+cutAt got count = cond (ltb count (got .count)) (record { count = count; refusal = fault }) got
 
--- the first k numbers of some lookup stand in work: their sum
-abbrev pub Adds : ℕ → ℕ → List ℕ → First → Answer ℕ → Type 0
-Adds from k work got r = (at : ℕ → Answer ℕ) (before : List ℕ) → Firsts at k from before work got → total at k ≡ r
+-- why no run follows those that are laid, where l would be its length
+unfoldable pub nextRefusal : ℕ → ℕ → First → First → Laid → ℕ → ℕ
+nextRefusal n runs values lengths laid l =
+    cond (ltb (laid .runs) (lengths .count)) (cond (runFits n (laid .numbers) l) (values .refusal) fault)
+    (cond (ltb (laid .runs) runs) (lengths .refusal) fault)
 
--- the lengths of the first runs stand in work: the run that holds a place of n
-abbrev pub Seeks : ℕ → ℕ → ℕ → ℕ → List ℕ → First → Answer ℕ → Type 0
-Seeks from n place runs work got r =
-    (at : ℕ → Answer ℕ) (before : List ℕ) → Firsts at (min runs (place + 1)) from before work got → seek at n place runs 0 0 ≡ r
+-- the run that is sought in the lengths of the first runs, where there are so many in all
+abbrev pub runOf : ℕ → First → Sought → Answer ℕ
+runOf runs got (sought.At j) = given (j .number)
+runOf runs got (sought.After s) = refused (cond (ltb (got .count) runs) (got .refusal) fault)
+runOf runs got (sought.Refused e) = refused e
 
--- one value stands n times from a place on, and all else is as it was
-pub record Filled (at n v : ℕ) (work work′ : List ℕ) : Type 0 where
-  pub here : (i : ℕ) → i < n → getD work′ (at + i) 0 ≡ v
-  pub after : (p : ℕ) → at + n ≤ p → getD work′ p 0 ≡ getD work p 0
-  pub kept : take at work′ ≡ take at work
-  pub long : length work′ ≡ length work
-
--- the lengths and the values of the first runs stood in work, n and 2n places after the place from which their numbers stand now
-abbrev pub Spread : ℕ → ℕ → ℕ → ℕ → List ℕ → First → First → List ℕ → First → Type 0
-Spread from n k runs work lengths values work′ r =
-    (lengthAt valueAt : ℕ → Answer ℕ) (before behind : List ℕ)
-    → Firsts lengthAt (min runs k) (from + n) before work lengths → Firsts valueAt (min runs k) (from + n + n) behind work values
+-- the values and the lengths of the first runs stood in work, n and 2n places after the place from which their numbers stand now
+abbrev pub RunsTurned : ℕ → ℕ → ℕ → ℕ → List ℕ → First → First → List ℕ → First → Type 0
+RunsTurned from n k runs work values lengths work′ r =
+    (valueAt lengthAt : ℕ → Answer ℕ) (before behind : List ℕ)
+    → Firsts valueAt (min runs k) (from + n) before work values → Firsts lengthAt (min runs k) (from + 2 * n) behind work lengths
     → Firsts (runsAt n runs lengthAt valueAt) k from work work′ r

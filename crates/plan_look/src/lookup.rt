@@ -1,35 +1,45 @@
 // One number by a plan, with no work lent: what is needed of inner numbers is collected once, or added up as it is read.
 use crate::firsts::firsts_plan;
-use crate::lists::lesser;
-use crate::lists::long;
-use crate::lists::number_of;
-use crate::lists::seek_run;
-use crate::lists::total_firsts;
-use crate::runs::FAULT;
-use crate::runs::Header;
-use crate::runs::Run;
-use crate::runs::header_of;
+use codes::First;
+use codes::Run;
 use codes::Total;
-use codes::firsts_code;
 use codes::lookup_code;
+use codes::seek_code;
 use codes::total_code;
 use fields::word_at;
 use judge::stage::Stage;
 use judge::stage::plan_end;
 use judge::stage::stage_at;
+use leaves::lesser;
+use leaves::long;
+use meaning::FAULT;
 use meaning::Found;
 use meaning::Offset;
 use meaning::Place;
+use stages::Header;
+use stages::Sought;
+use stages::header_of;
+use stages::seek_in;
+use stages::total_of;
 ghost use mathlib.Core.Path.{_≡_};
 ghost use Prim.Native.Nat.{_+_, _≤_};
-ghost use Rattle.meaning.specs.Codes.{codeOf, lookCode};
 ghost use Rattle.meaning.specs.Limits.{mostStages};
 ghost use Rattle.meaning.specs.Plan.{planAt, planOf, planSize, runs as runsPlan};
 ghost use Rattle.meaning.specs.Says.{foundSays};
-ghost use Rattle.meaning.specs.Stages.{look, seek, total};
+ghost use Rattle.meaning.specs.Stages.{look, seek, total, within};
 ghost use Rattle.codes.specs.Firsts.{Looked};
-ghost use Rattle.plan_look.specs.Told.{runSays};
-ghost use Rattle.codes.specs.Started.{totalSays};
+ghost use Rattle.codes.specs.Started.{totalSays, runSays};
+ghost use Rattle.plan_look.specs.Turns.{runOf};
+
+// A sum as a number, refused above 2^32 - 1.
+fn number_of(sum: u64) -> Found
+    ensures { λ r. ⌜ foundSays r ≡ within sum ⌝ }
+{
+    if sum <= 4294967295 {
+        return Found::Number(sum as u32);
+    }
+    Found::Refused(FAULT)
+}
 
 // The sum of the numbers through a place, below a stage: they are collected first.
 fn total_stage(
@@ -47,7 +57,10 @@ fn total_stage(
     let start = Place { number: 0 };
     let k = place.number + 1;
     let got = firsts_plan(plan, pos, stages, body, n, k, &mut work, start);
-    total_firsts(&work, start, got, k)
+    if got.count < k {
+        return Total::Refused(got.refusal);
+    }
+    Total::Sum(total_of(&work, start, k))
 }
 
 // The sum of the numbers through a place: a code adds them up as it reads.
@@ -59,6 +72,22 @@ fn total_plan(plan: &[u8], pos: Offset, stages: usize, body: &[u8], n: usize, pl
         return total_stage(plan, pos, stages, body, n, place);
     };
     total_code(code, body, n, place)
+}
+
+// The run that was sought in the lengths of the first of so many runs. Where it is none of them, the next length was refused or there is none.
+fn run_of(sought: Sought, got: First, runs: usize) -> Run
+    ensures { λ r. ⌜ runSays r ≡ runOf runs got sought ⌝ }
+{
+    match sought {
+        Sought::At(j) => Run::At(j),
+        Sought::After(_) => {
+            if got.count < runs {
+                return Run::Refused(got.refusal);
+            }
+            Run::Refused(FAULT)
+        }
+        Sought::Refused(e) => Run::Refused(e),
+    }
 }
 
 // The run that holds a place of n, its lengths by a stage.
@@ -78,19 +107,7 @@ fn run_by_stage(
     let start = Place { number: 0 };
     let few = lesser(runs, place.number + 1);
     let got = firsts_plan(plan, pos, stages, body, runs, few, &mut work, start);
-    seek_run(&work, start, got, runs, n, place)
-}
-
-// The same, its lengths by a code.
-fn run_by_code(code: u8, body: &[u8], runs: usize, n: usize, place: Place) -> Run
-    requires { ⌜ (Looked (now body) n (place .number)) × (runs ≤ n) ⌝ }
-    ensures { λ r. ⌜ runSays r ≡ seek (lookCode (codeOf code) (now (body .entry)) runs) n (place .number) runs 0 0 ⌝ }
-{
-    let mut work = [0u32; 1024];
-    let start = Place { number: 0 };
-    let few = lesser(runs, place.number + 1);
-    let got = firsts_code(code, body, runs, few, &mut work, start);
-    seek_run(&work, start, got, runs, n, place)
+    run_of(seek_in(&work, got.count, n, place, start), got, runs)
 }
 
 // The run that holds a place of n: no more lengths are asked for than places, since each is one at least.
@@ -109,7 +126,7 @@ fn find_run(
     let Stage::Code(code) = stage_at(plan, pos, stages) else {
         return run_by_stage(plan, pos, stages, body, runs, n, place);
     };
-    run_by_code(code, body, runs, n, place)
+    seek_code(code, body, runs, n, place)
 }
 
 // The number at a place of n.

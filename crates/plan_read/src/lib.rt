@@ -4,29 +4,22 @@ use fields::word_at;
 use judge::stage::Stage;
 use judge::stage::plan_end;
 use judge::stage::stage_at;
+use meaning::FAULT;
 use meaning::Offset;
 use meaning::Place;
 use meaning::Reading;
+use stages::Header;
+use stages::header_of;
 use stages::raise;
 use stages::sum_up;
 use stages::unroll_into;
-ghost use mathlib.Core.Path.{_≡_};
-ghost use Prim.Native.Nat.{_+_, _*_, _<_, _^_, _≤_};
+ghost use Prim.Native.Nat.{suc, _+_, _*_, _≤_};
 ghost use lib.ListN.{length};
 ghost use Rattle.meaning.specs.Limits.{mostBytes, mostNumbers};
 ghost use Rattle.meaning.specs.Places.{Got};
 ghost use Rattle.meaning.specs.Plan.{planAt, planOf, planSize, runs};
 ghost use Rattle.meaning.specs.Stages.{read};
-ghost use Rattle.plan_read.specs.Room.{Fits, FitsRuns};
-
-const FAULT: u8 = 9;
-
-// A header's number as a count of numbers or bytes.
-fn long(x: u32) -> usize
-    ensures { λ r. ⌜ (r ≡ x) × (r < 2 ^ 32) ⌝ }
-{
-    x as usize
-}
+ghost use Rattle.stages.specs.Room.{Fits};
 
 // Reads n numbers by the plan that begins at an offset of the plan's bytes.
 pub fn read_plan(
@@ -72,47 +65,29 @@ fn read_runs(
     work: &mut [u32],
     from: Place,
 ) -> Reading
-    requires { ⌜ FitsRuns (now body) (now work) stages n (from .number) ⌝ }
+    requires { ⌜ Fits (now body) (now work) (suc stages) n (from .number) ⌝ }
     ensures { λ r. ⌜ Got (read (runs (planAt stages (now (plan .entry)) (pos .byte)) (planAt stages (now (plan .entry)) (pos .byte + planSize (planAt stages (now (plan .entry)) (pos .byte))))) (now (body .entry)) n) (from .number) (now (work .entry)) (now (work .exit)) r ⌝ }
 {
-    if body.len() < 8 {
-        return Reading::Refused(FAULT);
-    }
-    let k = long(word_at(body, 0));
-    let size = long(word_at(body, 4));
-    if n < k {
-        return Reading::Refused(FAULT);
-    }
-    if body.len() - 8 < size {
-        return Reading::Refused(FAULT);
-    }
-    let first = from.number;
-    let second = plan_end(plan, pos, stages);
-    let split = 8 + size;
-    match read_plan(
-        plan,
-        pos,
-        stages,
-        &body[8..split],
-        k,
-        work,
-        Place { number: first + n },
-    ) {
-        Reading::Refused(e) => Reading::Refused(e),
-        Reading::Whole(_) => match read_plan(
-            plan,
-            second,
-            stages,
-            &body[split..],
-            k,
-            work,
-            Place {
+    match header_of(body, n) {
+        Header::Refused(e) => Reading::Refused(e),
+        Header::Runs(k, end) => {
+            let split = end.byte;
+            let first = from.number;
+            let values = Place { number: first + n };
+            let lengths = Place {
                 number: first + 2 * n,
-            },
-        ) {
-            Reading::Refused(e) => Reading::Refused(e),
-            Reading::Whole(_) => unroll_into(work, from, n, k),
-        },
+            };
+            let second = plan_end(plan, pos, stages);
+            match read_plan(plan, pos, stages, &body[8..split], k, work, values) {
+                Reading::Refused(e) => Reading::Refused(e),
+                Reading::Whole(_) => {
+                    match read_plan(plan, second, stages, &body[split..], k, work, lengths) {
+                        Reading::Refused(e) => Reading::Refused(e),
+                        Reading::Whole(_) => unroll_into(work, from, n, k),
+                    }
+                }
+            }
+        }
     }
 }
 

@@ -3,8 +3,8 @@ use Prim.Native.Nat.{ℕ, zero, suc, _+_, _-_, _*_, _^_, _≤_, _<_}
 use mathlib.Core.Path.{_≡_, refl, sym, ap, ap₂, _∙_, subst}
 use mathlib.Core.List.{List, _++_, append-assoc, map}
 use native.Mathlib.Omega.{arith}
-use lib.ListN.{length, take, drop, length-append, length-take, length-drop}
-use lib.Seq.{sets, take-take}
+use lib.ListN.{length, take, drop, length-append, length-take}
+use lib.Seq.{sets}
 use Rattle.meaning.specs.Bytes.{word}
 use Rattle.meaning.specs.Codes.{codeOf}
 use Rattle.meaning.specs.Limits.{numberLimit, mostNumbers}
@@ -17,22 +17,14 @@ use Rattle.meaning.proofs.Lawful.{Lawful}
 use Rattle.meaning.proofs.Stores.{sets-append, sets-swap, take-sets, part-sets, part-same}
 use Rattle.fields.proofs.Bytes.{bytes-length}
 use Rattle.stages.specs.Runs.{RunsMade}
-use Rattle.stages.proofs.Most.{cap, worst-cap, worst-grows, most, less-length, gaps-length}
+use Rattle.stages.specs.Room.{room, cap}
+use Rattle.stages.proofs.Most.{worst-cap, worst-grows, most, less-length, gaps-length}
+use Rattle.stages.proofs.Parts.{part-length, shorter}
+use Rattle.stages.proofs.Rooms.{room-least, room-grows}
 use Rattle.stages.proofs.Runs.{runs-few}
-use Rattle.plan_read.specs.Room.{room}
 use Rattle.plan_write.specs.Written.{Fit, FitRuns, Written}
 
 -- ---- sizes
-pub room-least : (l n : ℕ) → n ≤ room l n
-unfolding room
-room-least zero n = omega arith
-room-least (suc l) n = omega arith
-
-room-grows : (l k n : ℕ) → k ≤ n → room l k ≤ room l n
-unfolding room
-room-grows zero k n h = h
-room-grows (suc l) k n h = omega (arith, room-grows l k n h)
-
 cap-grows : (l k n : ℕ) → k ≤ n → cap l k ≤ cap l n
 unfolding cap
 cap-grows zero k n h = omega arith
@@ -42,14 +34,6 @@ pub top-room : (n : ℕ) → (room 3 n ≡ 7 * n) × (cap 3 n ≡ 72 * n + 56)
 unfolding room cap
 top-room n = (omega arith, omega arith)
 
-pub cap-code : (l n : ℕ) → 9 * n ≤ cap l n
-unfolding cap
-cap-code zero n = omega arith
-cap-code (suc l) n = omega (arith, cap-code l n)
-
-part-length : (w : List ℕ) (from n : ℕ) → from + n ≤ length w → length (part w from n) ≡ n
-part-length w from n h = omega (arith, length-take n (drop from w), length-drop from w)
-
 -- no more runs than numbers
 pub runs-fit : (w w₁ : List ℕ) (from n k : ℕ) → from + n ≤ length w → RunsMade (part w from n) from n w w₁ k → k ≤ n
 runs-fit w w₁ from n k h s = omega (arith, s .many, runs-few (part w from n), part-length w from n h)
@@ -58,7 +42,7 @@ runs-fit w w₁ from n k h s = omega (arith, s .many, runs-few (part w from n), 
 write-cap : ((c : ℕ) → Lawful (codeOf c)) → (l : ℕ) (bytes : List ℕ) (pos : ℕ) (ys : List ℕ) (n : ℕ) → Below numberLimit ys → length ys ≤ n → n ≤ mostNumbers
     → length (write (planAt l bytes pos) ys) ≤ cap l n
 write-cap laws l bytes pos ys n b h few =
-    omega (arith, most (λ c i. laws c) (planAt l bytes pos) ys b (omega arith), worst-grows (planAt l bytes pos) (length ys) n h, worst-cap l bytes pos n)
+    omega (arith, most laws (planAt l bytes pos) ys b (omega arith), worst-grows laws (planAt l bytes pos) (length ys) n h, worst-cap laws l bytes pos n)
 
 -- where the values' body ends
 pub values-end : ((c : ℕ) → Lawful (codeOf c)) → (l : ℕ) (bytes : List ℕ) (pos : ℕ) (w : List ℕ) (a k n at e : ℕ) → Below numberLimit w → k ≤ n → n ≤ mostNumbers
@@ -117,9 +101,6 @@ inner p ys from n at r w w₁ w₂ o o′ len fits ew s =
       bytes = s .bytes ∙ ap (λ (l : List ℕ). sets o at (write p l)) e;
       kept = shorter (from + n) (from + n + n) w₂ w₁ (omega arith) (s .kept) ∙ ap (take (from + n)) ew ∙ take-sets ys w (from + n) (from + n) (omega arith);
     }
-  where
-    shorter : (k m : ℕ) (v u : List ℕ) → k ≤ m → take m v ≡ take m u → take k v ≡ take k u
-    shorter k m v u h q = sym (take-take k m v h) ∙ ap (take k) q ∙ take-take k m u h
 
 pub written-differences : (p q : Plan) (from n at : ℕ) (r : Offset) (w w₁ w₂ o o′ : List ℕ) → p ≡ differences q → from + 2 * n ≤ length w
     → w₁ ≡ sets w (from + n) (lessBefore 0 (part w from n))
@@ -168,9 +149,6 @@ runs-bytes o o₁ o₂ o₃ o₄ hd vb lb hl at e h₄ l₄ e₁ e₂ ee e₃ e�
     e₄ ∙ ap₂ (λ (l : List ℕ) (x : ℕ). sets l x lb) a₃′ pe ∙ sets-append ((hd ++ h₂) ++ vb) lb o at
     ∙ ap (sets o at) (append-assoc (hd ++ h₂) vb lb ∙ append-assoc hd h₂ (vb ++ lb))
 
-kept-under : (k m : ℕ) (v w : List ℕ) → k ≤ m → take m v ≡ take m w → take k v ≡ take k w
-kept-under k m v w h e = sym (take-take k m v h) ∙ ap (take k) e ∙ take-take k m w h
-
 pub written-runs : (p q : Plan) (from n at k : ℕ) (e r : Offset) (w w₁ w₂ w₃ o o₁ o₂ o₃ o₄ : List ℕ) (a b : ℕ) → k ≤ n
     → RunsMade (part w from n) from n w w₁ k
     → a ≡ k → o₁ ≡ sets o at (word a)
@@ -195,7 +173,7 @@ written-runs p q from n at k e r w w₁ w₂ w₃ o o₁ o₂ o₃ o₄ a b few 
           (eo ∙ ap (λ (x : ℕ). sets o at (word x)) ea) (s .bytes ∙ ap (λ (l : List ℕ). sets o₁ (at + 8) (write p l)) ev) ends₁
           (eo₃ ∙ ap (λ (x : ℕ). sets o₂ (at + 4) (word x)) eb) (t .bytes ∙ ap (λ (l : List ℕ). sets o₃ (e .byte) (write q l)) el)
           ∙ ap (λ (x : ℕ). sets o at (word x ++ (word (length (write p vs)) ++ (write p vs ++ write q ls)))) (m .many);
-      kept = kept-under (from + n) (from + n + k) w₃ w₂ (omega arith) (t .kept) ∙ kept-under (from + n) (from + 2 * n + k) w₂ w₁ (omega arith) (s .kept) ∙ m .kept;
+      kept = shorter (from + n) (from + n + k) w₃ w₂ (omega arith) (t .kept) ∙ shorter (from + n) (from + 2 * n + k) w₂ w₁ (omega arith) (s .kept) ∙ m .kept;
     }
 
 pub written-stage : (p q : Plan) (xs : List ℕ) (keep at : ℕ) (r : Offset) (w w′ o o′ : List ℕ) → p ≡ q → Written q xs keep at w w′ o o′ r → Written p xs keep at w w′ o o′ r

@@ -8,8 +8,7 @@ use Rattle.meaning.specs.Limits.{mostNumbers}
 use Rattle.meaning.specs.Plan.{Plan}
 use Rattle.meaning.specs.Stages.{write}
 use Rattle.meaning.specs.declared.Offset.{Offset}
-use Rattle.stages.proofs.Most.{cap}
-use Rattle.plan_read.specs.Room.{room}
+use Rattle.stages.specs.Room.{room, cap}
 
 -- there is room in work for the list and its scratch, no offset passes the largest number, and a body's length fits 4 bytes
 pub record Fit (stages n from at len : ℕ) : Type 0 where

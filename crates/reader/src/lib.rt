@@ -1,5 +1,6 @@
 // A reader stands on one column of a lent sheet. The branches are in covered functions; what takes, makes or lends the struct is proved by hand.
 use meaning::Found;
+use meaning::MOST_NUMBERS;
 use meaning::Place;
 use sheet::lookup;
 use table::Column;
@@ -11,9 +12,6 @@ ghost use Rattle.meaning.specs.Limits.{mostNumbers};
 ghost use Rattle.meaning.specs.Operations.{lookSheet, openReader, call};
 ghost use Rattle.meaning.specs.Says.{foundSays};
 ghost use Rattle.reader.specs.Steps.{nextPlace, opened, answer, standing, moved};
-
-// The most numbers of a column.
-const MOST_NUMBERS: usize = 1024;
 
 // The part of the sheet that it reads, the column, and the place of the next call.
 pub struct Reader<'a> {

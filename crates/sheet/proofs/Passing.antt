@@ -41,5 +41,5 @@ module _ (sheet : List ℕ) (bytes : Below 256 sheet) (work : ℕ) (passes : che
   pub looks-all : (place : ℕ) → place < columnAt sheet k .count → lookSheet sheet k place ≡ given (getD (numbersAt sheet k) place 0)
   looks-all place h =
       look-there sheet k place (columnAt sheet k) found h
-      ∙ looks (λ c i. laws c) (planOf (columnAt sheet k .plan)) (columnAt sheet k .body) (columnAt sheet k .count) (numbersAt sheet k) body-bytes
+      ∙ looks laws (planOf (columnAt sheet k .plan)) (columnAt sheet k .body) (columnAt sheet k .count) (numbersAt sheet k) body-bytes
       (column-many (columnAt sheet k) (numbersAt sheet k) body-bytes numbers-read .0) place (omega (arith, numbers-many))

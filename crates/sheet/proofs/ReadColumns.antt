@@ -88,4 +88,4 @@ column-many c xs b e =
     let (o, g) = need-given (ofKind (c .kind) ys) fault (given ys) xs ek in
     let same : ys ≡ xs = cc in
     let r : read (planOf (c .plan)) (c .body) (c .count) ≡ given xs = er ∙ g in
-    (r, back (λ c h. laws c) (planOf (c .plan)) (c .body) (c .count) xs b r .1)
+    (r, back laws (planOf (c .plan)) (c .body) (c .count) xs b r .1)

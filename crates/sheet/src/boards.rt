@@ -1,7 +1,9 @@
 // The board of a sheet that passed the check: column 0 holds job numbers, column 1 endings.
 use crate::columns::read_column;
+use meaning::BAD_BOARD;
 use meaning::Counted;
 use meaning::Place;
+use meaning::RISING;
 use meaning::Reading;
 use meaning::Tally;
 use stages::differs_in;
@@ -17,14 +19,8 @@ ghost use Rattle.meaning.specs.Operations.{check as checkOf};
 ghost use Rattle.meaning.specs.Says.{countedSays};
 ghost use Rattle.sheet.specs.Board.{Known, ReadAgain, jobsHold, Countable, withEnding, endingsTold};
 
-// The kind of a list that rises.
-const RISING: u8 = 1;
-
 // The ending of a job that never ended, the largest.
 const NEVER_ENDED: u32 = 256;
-
-// Board rules broken.
-const BAD_BOARD: u8 = 12;
 
 // Reads a column of a checked sheet once more, and tells how many numbers stand in work.
 pub fn read_again(sheet: &[u8], column: usize, work: &mut [u32]) -> usize

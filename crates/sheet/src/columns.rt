@@ -1,5 +1,8 @@
 // A column's numbers by its entry: read into work, and handed on.
+use meaning::FAULT;
+use meaning::PLAN_BYTES;
 use meaning::Place;
+use meaning::RISING;
 use meaning::Reading;
 use plan_read::read_list;
 use stages::rises_in;
@@ -11,15 +14,6 @@ ghost use lib.Seq.{sets};
 ghost use Rattle.meaning.specs.Places.{Got};
 ghost use Rattle.meaning.specs.Sheet.{readColumn};
 ghost use Rattle.sheet.specs.Opened.{columnOf, Readable};
-
-// A plan's length.
-const PLAN_BYTES: usize = 15;
-
-// The kind of a list that rises.
-const RISING: u8 = 1;
-
-// Fault in a body.
-const FAULT: u8 = 9;
 
 // Reads a column into work from its first place on: all of its plan is applied, and a list of kind 1 must rise.
 pub fn read_column(sheet: &[u8], entry: Entry, work: &mut [u32]) -> Reading

@@ -4,11 +4,16 @@ use crate::boards::read_again;
 use crate::boards::tally_in;
 use crate::columns::copy_list;
 use crate::columns::read_column;
+use meaning::BAD_BOARD;
 use meaning::Checked;
 use meaning::Counted;
 use meaning::Found;
+use meaning::NO_PLACE;
+use meaning::NO_ROOM;
+use meaning::PLAN_BYTES;
 use meaning::Place;
 use meaning::Reading;
+use meaning::SHORT_WORK;
 use plan_look::lookup_list;
 use table::Column;
 use table::column_at;
@@ -26,21 +31,6 @@ ghost use Rattle.sheet.specs.Opened.{Ready};
 
 mod boards;
 mod columns;
-
-// A plan's length.
-const PLAN_BYTES: usize = 15;
-
-// Refused: place not below the count.
-const NO_PLACE: u8 = 6;
-
-// Refused: output shorter than the answer.
-const NO_ROOM: u8 = 7;
-
-// Refused: work slice too short.
-const SHORT_WORK: u8 = 8;
-
-// Refused: board rules broken.
-const BAD_BOARD: u8 = 12;
 
 // Reads all columns in turn: the first that is refused is at fault.
 fn check_columns(sheet: &[u8], work: &mut [u32]) -> Checked

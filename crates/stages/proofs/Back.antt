@@ -10,7 +10,7 @@ use lib.Seq.{length-take-le}
 use borrow.Author.Tests.{leb-true}
 use Rattle.meaning.specs.Answer.{given}
 use Rattle.meaning.specs.Bytes.{word, wordAt}
-use Rattle.meaning.specs.Codes.{isCode, codeOf}
+use Rattle.meaning.specs.Codes.{codeOf}
 use Rattle.meaning.specs.Limits.{numberLimit, fault}
 use Rattle.meaning.specs.Places.{Below}
 use Rattle.meaning.specs.Plan.{Plan, bad, code, reference, differences, runs}
@@ -19,7 +19,6 @@ use Rattle.meaning.proofs.Answers.{bind-given, need-given, not-given}
 use Rattle.meaning.proofs.Bounds.{below-take, below-drop}
 use Rattle.meaning.proofs.Lawful.{Lawful}
 use Rattle.meaning.proofs.Tests.{both-true}
-use Rattle.stages.proofs.Codes.{lawful}
 use Rattle.stages.proofs.Differences.{gaps-sums, Summed, summed-is}
 use Rattle.stages.proofs.Reference.{less-raise, Raised, raised-is}
 use Rattle.stages.proofs.RunsBack.{runs-unroll, unroll-length, unroll-below, Unrolled, unrolled-is}
@@ -78,7 +77,8 @@ header-fits n body e =
 abbrev Wrote : Plan → List ℕ → ℕ → List ℕ → Type 0
 Wrote p body n xs = (write p xs ≡ body) × (length xs ≡ n) × Below numberLimit xs
 
-back-reference : (p : Plan) (body : List ℕ) (n : ℕ) (xs : List ℕ) → Below 256 body → (s : ReferenceRead p body n xs) → Wrote p (drop 4 body) n (s .ys) → Wrote (reference p) body n xs
+back-reference : (p : Plan) (body : List ℕ) (n : ℕ) (xs : List ℕ) → Below 256 body → (s : ReferenceRead p body n xs)
+    → Wrote p (drop 4 body) n (s .ys) → Wrote (reference p) body n xs
 unfolding write
 back-reference p body n xs b s i =
     let m = wordAt body 0 in
@@ -92,7 +92,8 @@ back-reference p body n xs b s i =
       r .below,
     )
 
-back-differences : (p : Plan) (body : List ℕ) (n : ℕ) (xs : List ℕ) → (s : DifferencesRead p body n xs) → Wrote p body n (s .gs) → Wrote (differences p) body n xs
+back-differences : (p : Plan) (body : List ℕ) (n : ℕ) (xs : List ℕ) → (s : DifferencesRead p body n xs) → Wrote p body n (s .gs)
+    → Wrote (differences p) body n xs
 unfolding write
 back-differences p body n xs s i =
     let r = s .summed in (
@@ -110,7 +111,8 @@ back-runs p q body n xs vs ls b e u i j =
     let len = wordAt body 4 in
     let fits = header-fits n body e in
     let long : length (write p vs) ≡ len = ap length (i .0) ∙ length-take-le len (drop 8 body) (omega (arith, fits, length-drop 8 body)) in (
-      ap₂ (λ (v l : List ℕ). word (length v) ++ (word (length (write p v)) ++ (write p v ++ write q l))) (ap runValues (sym (u .is)) ∙ ev) (ap runLengths (sym (u .is)) ∙ el)
+      ap₂ (λ (v l : List ℕ). word (length v) ++ (word (length (write p v)) ++ (write p v ++ write q l))) (ap runValues (sym (u .is)) ∙ ev)
+          (ap runLengths (sym (u .is)) ∙ el)
           ∙ ap₂ (λ (k m : ℕ). word k ++ (word m ++ (write p vs ++ write q ls))) (i .1) long
           ∙ ap₂ (λ (v l : List ℕ). word (wordAt body 0) ++ (word len ++ (v ++ l))) (i .0) (j .0)
           ∙ words-whole body len b (fits .0) refl,
@@ -118,12 +120,13 @@ back-runs p q body n xs vs ls b e u i j =
       subst (Below numberLimit) (u .is) (unroll-below numberLimit vs ls (i .2)),
     )
 
-module _ (laws : (c : ℕ) → isCode c ≡ true → Lawful (codeOf c)) where
+module _ (laws : (c : ℕ) → Lawful (codeOf c)) where
   back-code : (c : ℕ) (body : List ℕ) (n : ℕ) (xs : List ℕ) → Below 256 body → read (code c) body n ≡ given xs → Wrote (code c) body n xs
   unfolding read write
-  back-code c body n xs b e = let r = lawful laws c .back body n xs b e in (r .bytes, r .many, r .small)
+  back-code c body n xs b e = let r = laws c .back body n xs b e in (r .bytes, r .many, r .small)
 
-  pub back : (p : Plan) (body : List ℕ) (n : ℕ) (xs : List ℕ) → Below 256 body → read p body n ≡ given xs → (write p xs ≡ body) × (length xs ≡ n) × Below numberLimit xs
+  pub back : (p : Plan) (body : List ℕ) (n : ℕ) (xs : List ℕ) → Below 256 body → read p body n ≡ given xs
+      → (write p xs ≡ body) × (length xs ≡ n) × Below numberLimit xs
   unfolding read
   back bad body n xs b e = absurd (not-given _ _ e)
   back (code c) body n xs b e = back-code c body n xs b e

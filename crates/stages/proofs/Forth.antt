@@ -9,7 +9,7 @@ use lib.ListN.{length}
 use borrow.Author.Tests.{le-leb}
 use Rattle.meaning.specs.Answer.{given}
 use Rattle.meaning.specs.Bytes.{word, wordAt}
-use Rattle.meaning.specs.Codes.{isCode, codeOf}
+use Rattle.meaning.specs.Codes.{codeOf}
 use Rattle.meaning.specs.Limits.{numberLimit, mostNumbers, any, rising}
 use Rattle.meaning.specs.Lists.{rises}
 use Rattle.meaning.specs.Places.{Below}
@@ -18,7 +18,6 @@ use Rattle.meaning.specs.Sheet.{ofKind}
 use Rattle.meaning.specs.Stages.{least, lessBefore, runValues, runLengths, write, unrolled, runHeader, read}
 use Rattle.meaning.proofs.Lawful.{Lawful}
 use Rattle.meaning.proofs.Tests.{both-true}
-use Rattle.stages.proofs.Codes.{lawful}
 use Rattle.stages.proofs.Differences.{gaps-below, summed-gaps}
 use Rattle.stages.proofs.Lists.{kind-kept, kind-rises, kind-any}
 use Rattle.stages.proofs.Most.{less-length, gaps-length, worst-grows, plan-worst, most}
@@ -41,14 +40,20 @@ forth-reference p xs h i =
     let m = least xs in
     let ys = lessBy m xs in
     let r = reads-as p (write p ys) ys (length xs) (less-length m xs) i in
-    rw (le-leb 4 (length (word m ++ write p ys)) (omega (arith, word-long m (write p ys))), word-after m (write p ys), word-first m (write p ys) (least-below numberLimit xs h), r)
+    rw (
+      le-leb 4 (length (word m ++ write p ys)) (omega (arith, word-long m (write p ys))),
+      word-after m (write p ys),
+      word-first m (write p ys) (least-below numberLimit xs h),
+      r,
+    )
     (raised-least xs h)
 
 forth-differences : (p : Plan) (xs : List ℕ) → rises xs ≡ true → Below numberLimit xs → Reads p (lessBefore 0 xs) → Reads (differences p) xs
 unfolding read write
 forth-differences p xs s h i = rw (reads-as p (write p (lessBefore 0 xs)) (lessBefore 0 xs) (length xs) (gaps-length xs) i) (summed-gaps xs s h)
 
-read-runs : (p q : Plan) (body : List ℕ) (n k : ℕ) (first second vs ls : List ℕ) → Split k first second body → k ≤ n → read p first k ≡ given vs → read q second k ≡ given ls
+read-runs : (p q : Plan) (body : List ℕ) (n k : ℕ) (first second vs ls : List ℕ) → Split k first second body → k ≤ n → read p first k ≡ given vs
+    → read q second k ≡ given ls
     → read (runs p q) body n ≡ unrolled n vs ls
 unfolding read runHeader
 read-runs p q body n k first second vs ls s h ep eq =
@@ -63,7 +68,8 @@ read-runs p q body n k first second vs ls s h ep eq =
       eq,
     )
 
-forth-runs : (p q : Plan) (xs : List ℕ) → length xs < numberLimit → length (write p (runValues xs)) < numberLimit → Reads p (runValues xs) → Reads q (runLengths xs) → Reads (runs p q) xs
+forth-runs : (p q : Plan) (xs : List ℕ) → length xs < numberLimit → length (write p (runValues xs)) < numberLimit → Reads p (runValues xs)
+    → Reads q (runLengths xs) → Reads (runs p q) xs
 unfolding write
 forth-runs p q xs l b i j =
     let vs = runValues xs in
@@ -73,10 +79,10 @@ forth-runs p q xs l b i j =
     (words-split (length vs) (write p vs) (write q ls) (omega arith) b) few i (reads-as q (write q ls) ls (length vs) (runs-many xs) j)
     ∙ unrolled-runs xs
 
-module _ (laws : (c : ℕ) → isCode c ≡ true → Lawful (codeOf c)) where
+module _ (laws : (c : ℕ) → Lawful (codeOf c)) where
   forth-code : (c : ℕ) (xs : List ℕ) → Below numberLimit xs → Reads (code c) xs
   unfolding read write
-  forth-code c xs h = lawful laws c .forth xs h
+  forth-code c xs h = laws c .forth xs h
 
   -- the sizes are such that a body's length is a number
   pub forth : (p : Plan) (kind : ℕ) (xs : List ℕ) → passes kind p ≡ true → ofKind kind xs ≡ true → Below numberLimit xs → length xs < numberLimit
@@ -88,7 +94,8 @@ module _ (laws : (c : ℕ) → isCode c ≡ true → Lawful (codeOf c)) where
       let m = least xs in
       let n = less-length m xs in
       forth-reference p xs h
-      (forth p kind (lessBy m xs) s (kind-kept kind xs (lessBy m xs) (less-rises m xs) o) (less-below numberLimit m xs h) (omega arith) (omega (arith, ap (worstPlan p) n)))
+      (forth p kind (lessBy m xs) s (kind-kept kind xs (lessBy m xs) (less-rises m xs) o) (less-below numberLimit m xs h) (omega arith)
+      (omega (arith, ap (worstPlan p) n)))
   forth (differences p) kind xs s o h l w =
       let (k, t) = both-true (eqb kind rising) (passes any p) s in
       let n = gaps-length xs in
@@ -100,13 +107,14 @@ module _ (laws : (c : ℕ) → isCode c ≡ true → Lawful (codeOf c)) where
       let many = runs-many xs in
       let hv = run-values-below numberLimit xs h in
       let hl = run-lengths-below numberLimit xs l in
-      let wp = worst-grows p (length (runValues xs)) (length xs) few in
-      let wq = worst-grows q (length (runLengths xs)) (length xs) (omega arith) in
+      let wp = worst-grows laws p (length (runValues xs)) (length xs) few in
+      let wq = worst-grows laws q (length (runLengths xs)) (length xs) (omega arith) in
       forth-runs p q xs l (omega (arith, most laws p (runValues xs) hv (omega arith)))
       (forth p kind (runValues xs) a (kind-kept kind xs (runValues xs) (runs-rise xs) o) hv (omega arith) (omega arith))
       (forth q any (runLengths xs) b (kind-any (runLengths xs)) hl (omega arith) (omega arith))
 
   -- a plan of 15 bytes is never stuck
-  pub forth-plan : (bytes : List ℕ) (kind : ℕ) (xs : List ℕ) → passes kind (planOf bytes) ≡ true → ofKind kind xs ≡ true → Below numberLimit xs → length xs ≤ mostNumbers
+  pub forth-plan : (bytes : List ℕ) (kind : ℕ) (xs : List ℕ) → passes kind (planOf bytes) ≡ true → ofKind kind xs ≡ true → Below numberLimit xs
+      → length xs ≤ mostNumbers
       → read (planOf bytes) (write (planOf bytes) xs) (length xs) ≡ given xs
-  forth-plan bytes kind xs s o h l = forth (planOf bytes) kind xs s o h (omega arith) (omega (arith, plan-worst bytes (length xs)))
+  forth-plan bytes kind xs s o h l = forth (planOf bytes) kind xs s o h (omega arith) (omega (arith, plan-worst laws bytes (length xs)))

@@ -19,7 +19,8 @@ pub got-refused : (a : Answer (List ℕ)) (from : ℕ) (w w′ : List ℕ) (e : 
 got-refused a from w w′ e is kept = record { told = ap amount (sym is); here = λ xs q. absurd (not-given e xs (sym is ∙ q)); kept = kept }
 
 -- n numbers are given, and they have been stored from the place on
-pub got-stored : (a : Answer (List ℕ)) (from n : ℕ) (w w′ xs : List ℕ) → a ≡ given xs → length xs ≡ n → from + n ≤ length w → w′ ≡ sets w from xs → Got a from w w′ (Whole n)
+pub got-stored : (a : Answer (List ℕ)) (from n : ℕ) (w w′ xs : List ℕ) → a ≡ given xs → length xs ≡ n → from + n ≤ length w → w′ ≡ sets w from xs
+    → Got a from w w′ (Whole n)
 got-stored a from n w w′ xs is many room stored =
     record {
       told = ap (λ (k : ℕ). given k) (sym many) ∙ ap amount (sym is);
@@ -32,7 +33,8 @@ module _ (a : Answer (List ℕ)) (from : ℕ) (w w₁ : List ℕ) (q : Reading) 
   pub got-given : (n : ℕ) → q ≡ Whole n → (a ≡ given (part w₁ from n)) × (length (part w₁ from n) ≡ n)
   got-given n e = go a (so .here) (sym (ap readingSays e) ∙ so .told)
     where
-      go : (b : Answer (List ℕ)) → ((xs : List ℕ) → b ≡ given xs → part w₁ from (length xs) ≡ xs) → given n ≡ amount b → (b ≡ given (part w₁ from n)) × (length (part w₁ from n) ≡ n)
+      go : (b : Answer (List ℕ)) → ((xs : List ℕ) → b ≡ given xs → part w₁ from (length xs) ≡ xs) → given n ≡ amount b
+          → (b ≡ given (part w₁ from n)) × (length (part w₁ from n) ≡ n)
       go (given xs) h t =
           let many : length xs ≡ n = cc in
           let is : part w₁ from n ≡ xs = ap (part w₁ from) (sym many) ∙ h xs refl in

@@ -2,96 +2,48 @@
 use Prim.Native.Nat.{ℕ, zero, suc, _+_, _-_, _≤_, _<_}
 use mathlib.Core.Path.{_≡_, refl, sym, ap, ap₂, _∙_}
 use mathlib.Core.Bool.{true}
-use mathlib.Core.List.{List, [], _∷_, _++_}
+use mathlib.Core.List.{List, [], _∷_}
 use native.Mathlib.Nat.{add-zero, zero-add, sub-zero}
 use native.Mathlib.Numerals.{add-one}
 use native.Mathlib.Omega.{arith}
-use lib.Dec.{leb}
-use lib.ListN.{length, getD, take, drop, replicate, length-replicate, List·getD-append, getD-replicate}
-use lib.Seq.{take-suc, getD-append-add}
-use borrow.Author.Tests.{le-leb, lt-ltb, le-ltb, leb-true}
+use lib.ListN.{length, getD, take, drop}
+use lib.Seq.{take-suc}
+use borrow.Author.Tests.{lt-ltb}
 use Rattle.meaning.specs.Answer.{Answer, given}
 use Rattle.meaning.specs.Bytes.{wordAt}
-use Rattle.meaning.specs.Codes.{isCode, codeOf}
+use Rattle.meaning.specs.Codes.{codeOf}
 use Rattle.meaning.specs.Limits.{numberLimit}
-use Rattle.meaning.specs.Lists.{all, sum}
+use Rattle.meaning.specs.Lists.{sum}
 use Rattle.meaning.specs.Places.{Below}
 use Rattle.meaning.specs.Plan.{Plan, bad, code, reference, differences, runs}
-use Rattle.meaning.specs.Stages.{sumsFrom, unroll, runHeader, valuesBody, lengthsBody, read, within, total, seek, look}
+use Rattle.meaning.specs.Stages.{sumsFrom, runHeader, valuesBody, lengthsBody, read, within, total, seek, look}
 use Rattle.meaning.proofs.Answers.{not-given}
 use Rattle.meaning.proofs.Bounds.{below-take, below-drop}
 use Rattle.meaning.proofs.Lawful.{Lawful, look-code}
-use Rattle.meaning.proofs.Tests.{by-order, both-true}
 use Rattle.leaves.proofs.Joined.{sum-append}
 use Rattle.stages.proofs.Back.{ReferenceRead, reference-read, DifferencesRead, differences-read, runs-read, back}
 use Rattle.stages.proofs.RunsBack.{Unrolled, unrolled-is, unroll-length}
-use Rattle.stages.proofs.Scans.{raisedBy, raise-scan, sums-scan, scan-length}
+use Rattle.stages.proofs.Scans.{raisedBy, raised-at, raise-scan, sums-scan, scan-length}
+use Rattle.stages.proofs.Seeks.{finds}
 
 pub within-given : (x : ℕ) → x < numberLimit → within x ≡ given x
 unfolding within
 within-given x h = rw (lt-ltb x numberLimit h)
 
 -- ---- sums of the first numbers
-sum-taken : (p i : ℕ) (gs : List ℕ) → i < length gs → getD (sumsFrom p gs) i 0 ≡ p + sum (take (suc i) gs)
+pub sum-taken : (p i : ℕ) (gs : List ℕ) → i < length gs → getD (sumsFrom p gs) i 0 ≡ p + sum (take (suc i) gs)
 unfolding sumsFrom sum
 sum-taken p i [] h = absurd (omega arith)
 sum-taken p zero (g ∷ gs) h = omega arith
 sum-taken p (suc i) (g ∷ gs) h = omega (arith, sum-taken (p + g) i gs (omega arith))
 
-total-taken : (at : ℕ → Answer ℕ) (gs : List ℕ) → ((i : ℕ) → i < length gs → at i ≡ given (getD gs i 0)) → (k : ℕ) → k ≤ length gs → total at k ≡ given (sum (take k gs))
+pub total-taken : (at : ℕ → Answer ℕ) (gs : List ℕ) → ((i : ℕ) → i < length gs → at i ≡ given (getD gs i 0)) → (k : ℕ) → k ≤ length gs
+    → total at k ≡ given (sum (take k gs))
 unfolding total sum
 total-taken at gs h zero l = refl
 total-taken at gs h (suc k) l =
     let next : sum (take k gs) + getD gs k 0 ≡ sum (take (suc k) gs) = omega (arith, ap sum (take-suc gs k 0 l), sum-append (take k gs) (getD gs k 0 ∷ [])) in
     rw (total-taken at gs h k (omega arith), h k (omega arith)) (ap (λ (x : ℕ). given x) next)
-
--- ---- the run that holds a place
-record Finds (at : ℕ → Answer ℕ) (n place : ℕ) (vs ls : List ℕ) (j s : ℕ) : Type 0 where
-  run : ℕ
-  found : seek at n place (length ls) j s ≡ given (j + run)
-  inside : run < length ls
-  value : getD vs run 0 ≡ getD (unroll vs ls) (place - s) 0
-
-module _ (at : ℕ → Answer ℕ) (n place v l : ℕ) (vs ls : List ℕ) (j s : ℕ) (here : at j ≡ given l) (some : 1 ≤ l) (fits : s + l ≤ n) (after : s ≤ place) where
-  finds-here : place < s + l → Finds at n place (v ∷ vs) (l ∷ ls) j s
-  unfolding seek unroll
-  finds-here h =
-      record {
-        run = 0;
-        found = rw (here, le-leb 1 l some, le-leb (s + l) n fits, lt-ltb place (s + l) h, add-zero);
-        inside = omega arith;
-        value = sym (List·getD-append (replicate l v) (unroll vs ls) 0 (place - s) (omega (arith, length-replicate l v)) ∙ getD-replicate l (place - s) v 0 (omega arith));
-      }
-
-  finds-later : s + l ≤ place → Finds at n place vs ls (j + 1) (s + l) → Finds at n place (v ∷ vs) (l ∷ ls) j s
-  unfolding seek unroll
-  finds-later h f =
-      let d : j + 1 + f .run ≡ j + suc (f .run) = omega arith in
-      let w : place - s ≡ length (replicate l v) + (place - (s + l)) = omega (arith, length-replicate l v) in
-      record {
-        run = suc (f .run);
-        found = rw (here, le-leb 1 l some, le-leb (s + l) n fits, le-ltb place (s + l) h) (f .found ∙ ap (λ (x : ℕ). given x) d);
-        inside = omega (arith, f .inside);
-        value = f .value ∙ sym (ap (λ (i : ℕ). getD (replicate l v ++ unroll vs ls) i 0) w ∙ getD-append-add (replicate l v) (unroll vs ls) (place - (s + l)) 0);
-      }
-
-next-at : (at : ℕ → Answer ℕ) (j t x : ℕ) → at (j + suc t) ≡ given x → at (j + 1 + t) ≡ given x
-next-at at j t x e = let d : j + 1 + t ≡ j + suc t = omega arith in ap at d ∙ e
-
-finds : (at : ℕ → Answer ℕ) (n place : ℕ) (vs ls : List ℕ) (j s : ℕ) → length vs ≡ length ls → all (leb 1) ls ≡ true → s + sum ls ≤ n → s ≤ place → place < s + sum ls
-    → ((t : ℕ) → t < length ls → at (j + t) ≡ given (getD ls t 0)) → Finds at n place vs ls j s
-unfolding all sum
-finds at n place [] [] j s p a f o i h = absurd (omega arith)
-finds at n place [] (l ∷ ls) j s p a f o i h = absurd (omega arith)
-finds at n place (v ∷ vs) [] j s p a f o i h = absurd (omega arith)
-finds at n place (v ∷ vs) (l ∷ ls) j s p a f o i h =
-    let (b, c) = both-true (leb 1 l) (all (leb 1) ls) a in
-    let here : at j ≡ given l = ap at (sym (add-zero j)) ∙ h 0 (omega arith) in
-    let some = leb-true 1 l b in
-    by-order place (s + l)
-    (finds-here at n place v l vs ls j s here some (omega arith) o)
-    (λ k. finds-later at n place v l vs ls j s here some (omega arith) o k
-    (finds at n place vs ls (j + 1) (s + l) (omega arith) c (omega arith) k (omega arith) (λ t m. next-at at j t (getD ls t 0) (h (suc t) (omega arith)))))
 
 -- ---- stage by stage
 look-reference : (p : Plan) (body : List ℕ) (n : ℕ) (xs : List ℕ) (s : ReferenceRead p body n xs) (place : ℕ) → place < length xs
@@ -100,13 +52,10 @@ unfolding look
 look-reference p body n xs s place h i =
     let m = wordAt body 0 in
     let r = s .raised in
-    let x : m + getD (s .ys) place 0 ≡ getD xs place 0 = raised-at m (s .ys) place (omega (arith, ap length (r .is), scan-length raisedBy _ _ raise-scan m (s .ys))) ∙ ap (λ (l : List ℕ). getD l place 0) (r .is) in
+    let x : m + getD (s .ys) place 0 ≡ getD xs place 0
+    = raised-at m (s .ys) place (omega (arith, ap length (r .is), scan-length raisedBy _ _ raise-scan m (s .ys)))
+    ∙ ap (λ (l : List ℕ). getD l place 0) (r .is) in
     rw (s .fits, i) (within-given (m + getD (s .ys) place 0) (omega (arith, r .below place)) ∙ ap (λ (k : ℕ). given k) x)
-  where
-    raised-at : (m : ℕ) (ys : List ℕ) (i : ℕ) → i < length ys → m + getD ys i 0 ≡ getD (raisedBy m ys) i 0
-    raised-at m [] i h = absurd (omega arith)
-    raised-at m (y ∷ ys) zero h = refl
-    raised-at m (y ∷ ys) (suc i) h = raised-at m ys i (omega arith)
 
 look-differences : (p : Plan) (body : List ℕ) (n : ℕ) (xs : List ℕ) (s : DifferencesRead p body n xs) (place : ℕ) → place < length xs
     → ((i : ℕ) → i < length (s .gs) → look p body n i ≡ given (getD (s .gs) i 0)) → look (differences p) body n place ≡ given (getD xs place 0)
@@ -117,9 +66,11 @@ look-differences p body n xs s place h i =
     let k : place < length gs = omega (arith, ap length (r .is), scan-length sumsFrom _ _ sums-scan 0 gs) in
     let x : sum (take (place + 1) gs) ≡ getD xs place 0 =
     rw add-one (sym (ap (λ (l : List ℕ). getD l place 0) (sym (r .is)) ∙ sum-taken 0 place gs k ∙ zero-add (sum (take (suc place) gs)))) in
-    rw (total-taken (look p body n) gs i (place + 1) (omega arith)) (within-given (sum (take (place + 1) gs)) (omega (arith, r .below place)) ∙ ap (λ (k : ℕ). given k) x)
+    rw (total-taken (look p body n) gs i (place + 1) (omega arith))
+    (within-given (sum (take (place + 1) gs)) (omega (arith, r .below place)) ∙ ap (λ (k : ℕ). given k) x)
 
-look-runs : (p q : Plan) (body : List ℕ) (n place k : ℕ) (xs vs ls : List ℕ) → runHeader n body ≡ true → wordAt body 0 ≡ k → Unrolled n vs ls xs → length ls ≡ k → place < length xs
+look-runs : (p q : Plan) (body : List ℕ) (n place k : ℕ) (xs vs ls : List ℕ) → runHeader n body ≡ true → wordAt body 0 ≡ k → Unrolled n vs ls xs
+    → length ls ≡ k → place < length xs
     → ((i : ℕ) → i < length vs → look p (valuesBody body) k i ≡ given (getD vs i 0))
     → ((i : ℕ) → i < length ls → look q (lengthsBody body) k i ≡ given (getD ls i 0))
     → look (runs p q) body n place ≡ given (getD xs place 0)
@@ -130,23 +81,27 @@ look-runs p q body n place k xs vs ls e ek u many h i j =
     let f = finds (look q (lengthsBody body) k) n place vs ls 0 0 paired (u .maximal .some) (omega (arith, u .total)) (omega arith) (omega arith)
     (λ t m. ap (look q (lengthsBody body) k) (zero-add t) ∙ j t m) in
     let found : seek (look q (lengthsBody body) k) n place k 0 0 ≡ given (f .run) =
-    ap (λ (m : ℕ). seek (look q (lengthsBody body) k) n place m 0 0) (sym many) ∙ f .found ∙ ap (λ (m : ℕ). given m) (zero-add (f .run)) in
+    ap (λ (m : ℕ). seek (look q (lengthsBody body) k) n place m 0 0) (sym many) ∙ f .found (length ls) (omega arith)
+    ∙ ap (λ (m : ℕ). given m) (zero-add (f .run)) in
     rw (e, ek, found)
     (i (f .run) (omega (arith, f .inside)) ∙ ap (λ (x : ℕ). given x) (f .value ∙ ap₂ (λ (l : List ℕ) (m : ℕ). getD l m 0) (u .is) (sub-zero place)))
 
-module _ (laws : (c : ℕ) → isCode c ≡ true → Lawful (codeOf c)) where
-  look-plain : (c : ℕ) (body : List ℕ) (n : ℕ) (xs : List ℕ) → read (code c) body n ≡ given xs → (place : ℕ) → place < length xs → look (code c) body n place ≡ given (getD xs place 0)
+module _ (laws : (c : ℕ) → Lawful (codeOf c)) where
+  look-plain : (c : ℕ) (body : List ℕ) (n : ℕ) (xs : List ℕ) → read (code c) body n ≡ given xs → (place : ℕ) → place < length xs
+      → look (code c) body n place ≡ given (getD xs place 0)
   unfolding read look
   look-plain c body n xs e place h = look-code (codeOf c) body n xs e place h
 
-  pub looks : (p : Plan) (body : List ℕ) (n : ℕ) (xs : List ℕ) → Below 256 body → read p body n ≡ given xs → (place : ℕ) → place < length xs → look p body n place ≡ given (getD xs place 0)
+  pub looks : (p : Plan) (body : List ℕ) (n : ℕ) (xs : List ℕ) → Below 256 body → read p body n ≡ given xs → (place : ℕ) → place < length xs
+      → look p body n place ≡ given (getD xs place 0)
   unfolding read
   looks bad body n xs b e place h = absurd (not-given _ _ e)
   looks (code c) body n xs b e place h = look-plain c body n xs e place h
   looks (reference p) body n xs b e place h =
       let s = reference-read p body n xs e in
       look-reference p body n xs s place h
-      (looks p (drop 4 body) n (s .ys) (below-drop 256 4 body b) (s .inner) place (omega (arith, ap length (s .raised .is), scan-length raisedBy _ _ raise-scan (wordAt body 0) (s .ys))))
+      (looks p (drop 4 body) n (s .ys) (below-drop 256 4 body b) (s .inner) place
+      (omega (arith, ap length (s .raised .is), scan-length raisedBy _ _ raise-scan (wordAt body 0) (s .ys))))
   looks (differences p) body n xs b e place h =
       let s = differences-read p body n xs e in
       look-differences p body n xs s place h (λ i k. looks p body n (s .gs) b (s .inner) i k)

@@ -14,7 +14,7 @@ use Rattle.meaning.specs.Plan.{Plan, bad, code, reference, differences, runs, p
 use Rattle.meaning.specs.Stages.{least, lessBefore, runValues, runLengths, write}
 use Rattle.meaning.proofs.Bounds.{below-nil, below-append}
 use Rattle.meaning.proofs.Lawful.{Lawful}
-use Rattle.stages.proofs.Codes.{lawful, code-grows, code-nine}
+use Rattle.stages.specs.Room.{cap}
 use Rattle.stages.proofs.Differences.{gaps-below}
 use Rattle.stages.proofs.Reference.{less-below}
 use Rattle.stages.proofs.Runs.{runs-many, runs-few, run-values-below, run-lengths-below}
@@ -28,59 +28,55 @@ less-length m xs = scan-length lessBy _ _ less-scan m xs
 pub gaps-length : (xs : List ℕ) → length (lessBefore 0 xs) ≡ length xs
 gaps-length xs = scan-length lessBefore _ _ gaps-scan 0 xs
 
--- ---- worst sizes grow with the count
-pub worst-grows : (p : Plan) (k n : ℕ) → k ≤ n → worstPlan p k ≤ worstPlan p n
-unfolding worstPlan
-worst-grows bad k n h = omega arith
-worst-grows (code c) k n h = code-grows c k n h
-worst-grows (reference p) k n h = omega (arith, worst-grows p k n h)
-worst-grows (differences p) k n h = worst-grows p k n h
-worst-grows (runs p q) k n h = omega (arith, worst-grows p k n h, worst-grows q k n h)
-
--- above the worst size of every plan with at most so many stages over a code
-unfoldable pub cap : ℕ → ℕ → ℕ
-cap zero n = 9 * n
-cap (suc stages) n = 8 + (cap stages n + cap stages n)
-
-cap-least : (stages n : ℕ) → 9 * n ≤ cap stages n
+pub cap-least : (stages n : ℕ) → 9 * n ≤ cap stages n
 unfolding cap
 cap-least zero n = omega arith
 cap-least (suc stages) n = omega (arith, cap-least stages n)
 
-worst-by : (n m k : ℕ) (p q : Plan) → worstPlan p n ≤ m → worstPlan q n ≤ m → 9 * n ≤ m → (a b c d : Bool)
-    → worstPlan (cond a (code k) (cond b (reference p) (cond c (differences p) (cond d (runs p q) bad)))) n ≤ 8 + (m + m)
-unfolding worstPlan
-worst-by n m k p q h i l true b c d = omega (arith, code-nine k n)
-worst-by n m k p q h i l false true c d = omega arith
-worst-by n m k p q h i l false false true d = omega arith
-worst-by n m k p q h i l false false false true = omega arith
-worst-by n m k p q h i l false false false false = omega arith
+module _ (laws : (c : ℕ) → Lawful (codeOf c)) where
+  -- ---- worst sizes grow with the count
+  pub worst-grows : (p : Plan) (k n : ℕ) → k ≤ n → worstPlan p k ≤ worstPlan p n
+  unfolding worstPlan
+  worst-grows bad k n h = omega arith
+  worst-grows (code c) k n h = laws c .grows k n h
+  worst-grows (reference p) k n h = omega (arith, worst-grows p k n h)
+  worst-grows (differences p) k n h = worst-grows p k n h
+  worst-grows (runs p q) k n h = omega (arith, worst-grows p k n h, worst-grows q k n h)
 
-worst-code : (n k : ℕ) (a : Bool) → worstPlan (cond a (code k) bad) n ≤ 9 * n
-unfolding worstPlan
-worst-code n k true = code-nine k n
-worst-code n k false = omega arith
+  worst-by : (n m k : ℕ) (p q : Plan) → worstPlan p n ≤ m → worstPlan q n ≤ m → 9 * n ≤ m → (a b c d : Bool)
+      → worstPlan (cond a (code k) (cond b (reference p) (cond c (differences p) (cond d (runs p q) bad)))) n ≤ 8 + (m + m)
+  unfolding worstPlan
+  worst-by n m k p q h i l true b c d = omega (arith, laws k .nine n)
+  worst-by n m k p q h i l false true c d = omega arith
+  worst-by n m k p q h i l false false true d = omega arith
+  worst-by n m k p q h i l false false false true = omega arith
+  worst-by n m k p q h i l false false false false = omega arith
 
-pub worst-cap : (stages : ℕ) (bytes : List ℕ) (at n : ℕ) → worstPlan (planAt stages bytes at) n ≤ cap stages n
-unfolding planAt cap
-worst-cap zero bytes at n = worst-code n (getD bytes at 0) (isCode (getD bytes at 0))
-worst-cap (suc stages) bytes at n =
-    let b = getD bytes at 0 in
-    let p = planAt stages bytes (at + 1) in
-    worst-by n (cap stages n) b p (planAt stages bytes (at + 1 + planSize p)) (worst-cap stages bytes (at + 1) n) (worst-cap stages bytes (at + 1 + planSize p) n) (cap-least stages n)
-    (isCode b) (leb 1 (suc stages) && eqb b 16) (leb 1 (suc stages) && eqb b 17) (leb 1 (suc stages) && eqb b 18)
+  worst-code : (n k : ℕ) (a : Bool) → worstPlan (cond a (code k) bad) n ≤ 9 * n
+  unfolding worstPlan
+  worst-code n k true = laws k .nine n
+  worst-code n k false = omega arith
 
--- 15 plan bytes: a length of a body is then a number
-pub plan-worst : (bytes : List ℕ) (n : ℕ) → worstPlan (planOf bytes) n ≤ 72 * n + 56
-unfolding planOf cap
-plan-worst bytes n = omega (arith, worst-cap mostStages bytes 0 n)
+  pub worst-cap : (stages : ℕ) (bytes : List ℕ) (at n : ℕ) → worstPlan (planAt stages bytes at) n ≤ cap stages n
+  unfolding planAt cap
+  worst-cap zero bytes at n = worst-code n (getD bytes at 0) (isCode (getD bytes at 0))
+  worst-cap (suc stages) bytes at n =
+      let b = getD bytes at 0 in
+      let p = planAt stages bytes (at + 1) in
+      worst-by n (cap stages n) b p (planAt stages bytes (at + 1 + planSize p)) (worst-cap stages bytes (at + 1) n)
+      (worst-cap stages bytes (at + 1 + planSize p) n) (cap-least stages n)
+      (isCode b) (leb 1 (suc stages) && eqb b 16) (leb 1 (suc stages) && eqb b 17) (leb 1 (suc stages) && eqb b 18)
 
--- ---- what is written
-module _ (laws : (c : ℕ) → isCode c ≡ true → Lawful (codeOf c)) where
+  -- 15 plan bytes: a length of a body is then a number
+  pub plan-worst : (bytes : List ℕ) (n : ℕ) → worstPlan (planOf bytes) n ≤ 72 * n + 56
+  unfolding planOf cap
+  plan-worst bytes n = omega (arith, worst-cap mostStages bytes 0 n)
+
+  -- ---- what is written
   pub most : (p : Plan) (xs : List ℕ) → Below numberLimit xs → length xs < numberLimit → length (write p xs) ≤ worstPlan p (length xs)
   unfolding write worstPlan
   most bad xs h l = omega arith
-  most (code c) xs h l = lawful laws c .most xs h
+  most (code c) xs h l = laws c .most xs h
   most (reference p) xs h l =
       let ys = lessBy (least xs) xs in
       let n = less-length (least xs) xs in
@@ -110,10 +106,11 @@ module _ (laws : (c : ℕ) → isCode c ≡ true → Lawful (codeOf c)) where
   pub bytes : (p : Plan) (xs : List ℕ) → Below numberLimit xs → length xs < numberLimit → Below 256 (write p xs)
   unfolding write
   bytes bad xs h l = below-nil 256 (omega arith)
-  bytes (code c) xs h l = lawful laws c .bytes xs h
+  bytes (code c) xs h l = laws c .bytes xs h
   bytes (reference p) xs h l =
       let ys = lessBy (least xs) xs in
-      below-append 256 (word (least xs)) (write p ys) (word-small (least xs)) (bytes p ys (less-below numberLimit (least xs) xs h) (omega (arith, less-length (least xs) xs)))
+      below-append 256 (word (least xs)) (write p ys) (word-small (least xs))
+      (bytes p ys (less-below numberLimit (least xs) xs h) (omega (arith, less-length (least xs) xs)))
   bytes (differences p) xs h l = bytes p (lessBefore 0 xs) (gaps-below numberLimit 0 xs h) (omega (arith, gaps-length xs))
   bytes (runs p q) xs h l =
       let vs = runValues xs in
@@ -122,4 +119,5 @@ module _ (laws : (c : ℕ) → isCode c ≡ true → Lawful (codeOf c)) where
       let many = runs-many xs in
       below-append 256 (word (length vs)) _ (word-small (length vs))
       (below-append 256 (word (length (write p vs))) _ (word-small (length (write p vs)))
-      (below-append 256 (write p vs) (write q ls) (bytes p vs (run-values-below numberLimit xs h) (omega arith)) (bytes q ls (run-lengths-below numberLimit xs l) (omega arith))))
+      (below-append 256 (write p vs) (write q ls) (bytes p vs (run-values-below numberLimit xs h) (omega arith))
+      (bytes q ls (run-lengths-below numberLimit xs l) (omega arith))))

@@ -5,62 +5,80 @@ use mathlib.Core.Bool.{true}
 use mathlib.Core.List.{List}
 use native.Mathlib.Omega.{arith}
 use lib.ListN.{length, getD, take}
-use lib.Seq.{sets}
+use lib.Seq.{sets, take-all, length-take-le, getD-take}
 use borrow.Author.Tests.{eq-eqb, ne-eqb}
-use Rattle.meaning.specs.Limits.{fault, numberLimit}
+use Rattle.meaning.specs.Limits.{fault}
 use Rattle.meaning.specs.Places.{part, Got}
 use Rattle.meaning.specs.Stages.{least, sumsFrom, small, raised, summed}
 use Rattle.meaning.specs.declared.Reading.the-variants.{Whole, Refused}
 use Rattle.meaning.proofs.Stores.{part-sets, take-sets}
+use Rattle.stages.specs.Firsts.{Stored}
+use Rattle.stages.proofs.Firsts.{first-most, all-small, one-large}
 use Rattle.stages.proofs.Gots.{got-refused, got-stored}
-use Rattle.stages.proofs.Parts.{part-length}
-use Rattle.stages.proofs.Scans.{raisedBy, raise-scan, sums-scan, scan-length, Tested, tested-over, tested-end}
+use Rattle.stages.proofs.Parts.{part-length, stored-get}
+use Rattle.stages.proofs.Scans.{raisedBy, raise-scan, sums-scan, scan-length}
 
-module _ (w₀ : List ℕ) (from n : ℕ) (room : from + n ≤ length w₀) (w : List ℕ) (s i : ℕ) where
-  -- ---- sums: s is the sum so far
-  module _ (so : Tested sumsFrom w₀ from n 0 w s i) where
-    pub sum-over : i < n → numberLimit ≤ s + getD w (from + i) 0 → Got (summed (part w₀ from n)) from w₀ w (Refused fault)
+pub stored-kept : {xs : List ℕ} {from : ℕ} {w w₁ : List ℕ} {r : ℕ} → Stored xs from w w₁ r → take from w₁ ≡ take from w
+stored-kept {xs} {from} {w} {w₁} {r} so = ap (take from) (so .here) ∙ take-sets (take r xs) w from from (omega arith)
+
+pub stored-at : {xs : List ℕ} {from : ℕ} {w w₁ : List ℕ} {r : ℕ} → Stored xs from w w₁ r → from + length xs ≤ length w → (i : ℕ) → i < r
+    → getD w₁ (from + i) 0 ≡ getD xs i 0
+stored-at {xs} {from} {w} {w₁} {r} so room i h =
+    let many : length (take r xs) ≡ r = length-take-le r xs (omega (arith, so .many, first-most xs)) in
+    ap (λ (l : List ℕ). getD l (from + i) 0) (so .here) ∙ stored-get (take r xs) w from i (omega (arith, so .many, first-most xs)) (omega arith)
+    ∙ getD-take r xs i 0 h
+
+-- all of them are stored
+stored-all : {xs : List ℕ} {from : ℕ} {w w₁ : List ℕ} {r : ℕ} → Stored xs from w w₁ r → length xs ≤ r → (small xs ≡ true) × (w₁ ≡ sets w from xs)
+stored-all {xs} {from} {w} {w₁} {r} so h = (all-small xs (omega (arith, so .many)), so .here ∙ ap (sets w from) (take-all r xs h))
+
+module _ {from n : ℕ} {w w₁ : List ℕ} {r : ℕ} (room : from + n ≤ length w) where
+  module _ (so : Stored (sumsFrom 0 (part w from n)) from w w₁ r) where
+    sums-long : length (sumsFrom 0 (part w from n)) ≡ n
+    sums-long = scan-length sumsFrom _ _ sums-scan 0 (part w from n) ∙ part-length w from n room
+
+    pub sum-over : r < n → Got (summed (part w from n)) from w w₁ (Refused fault)
     unfolding summed
-    sum-over h k =
-        let (e, kept) = tested-over sumsFrom _ _ sums-scan w₀ from n 0 room w s i so h k in
-        got-refused _ from w₀ w fault (rw e) kept
+    sum-over h =
+        let large = one-large (sumsFrom 0 (part w from n)) (omega (arith, so .many, sums-long)) in
+        got-refused _ from w w₁ fault (rw large) (stored-kept so)
 
-    pub sum-whole : n ≤ i → Got (summed (part w₀ from n)) from w₀ w (Whole n)
+    pub sum-whole : n ≤ r → Got (summed (part w from n)) from w w₁ (Whole n)
     unfolding summed
     sum-whole h =
-        let (e, stored) = tested-end sumsFrom _ _ sums-scan w₀ from n 0 room w s i so h in
-        got-stored _ from n w₀ w (sumsFrom 0 (part w₀ from n)) (rw e) (scan-length sumsFrom _ _ sums-scan 0 (part w₀ from n) ∙ part-length w₀ from n room) room stored
+        let (e, stored) = stored-all so (omega (arith, sums-long)) in
+        got-stored _ from n w w₁ (sumsFrom 0 (part w from n)) (rw e) sums-long room stored
 
-  -- ---- a list raised by m: the state is m itself
-  module _ (m : ℕ) (so : Tested raisedBy w₀ from n m w s i) where
-    pub raise-over : i < n → numberLimit ≤ s + getD w (from + i) 0 → Got (raised m (part w₀ from n)) from w₀ w (Refused fault)
+  module _ (m : ℕ) (so : Stored (raisedBy m (part w from n)) from w w₁ r) where
+    raised-long : length (raisedBy m (part w from n)) ≡ n
+    raised-long = scan-length raisedBy _ _ raise-scan m (part w from n) ∙ part-length w from n room
+
+    pub raise-over : r < n → Got (raised m (part w from n)) from w w₁ (Refused fault)
     unfolding raised
-    raise-over h k =
-        let (e, kept) = tested-over raisedBy _ _ raise-scan w₀ from n m room w s i so h k in
-        got-refused _ from w₀ w fault (rw e) kept
+    raise-over h =
+        let large = one-large (raisedBy m (part w from n)) (omega (arith, so .many, raised-long)) in
+        got-refused _ from w w₁ fault (rw large) (stored-kept so)
 
-    -- every sum is in work, and r is the least of them
-    module _ (h : n ≤ i) (r : ℕ) (is : r ≡ least (part w from n)) where
-      ended : (small (raisedBy m (part w₀ from n)) ≡ true) × (w ≡ sets w₀ from (raisedBy m (part w₀ from n)))
-      ended = tested-end raisedBy _ _ raise-scan w₀ from n m room w s i so h
+    -- every sum is in work, and l is the least of them
+    module _ (h : n ≤ r) {l : ℕ} (is : l ≡ least (part w₁ from n)) where
+      all-stored : (small (raisedBy m (part w from n)) ≡ true) × (w₁ ≡ sets w from (raisedBy m (part w from n)))
+      all-stored = stored-all so (omega (arith, raised-long))
 
-      long : length (raisedBy m (part w₀ from n)) ≡ n
-      long = scan-length raisedBy _ _ raise-scan m (part w₀ from n) ∙ part-length w₀ from n room
-
-      lowest : r ≡ least (raisedBy m (part w₀ from n))
+      lowest : l ≡ least (raisedBy m (part w from n))
       lowest =
           is
-          ∙ ap (λ (l : List ℕ). least (part l from n)) (ended .1)
-          ∙ ap (λ (k : ℕ). least (part (sets w₀ from (raisedBy m (part w₀ from n))) from k)) (sym long)
-          ∙ ap least (part-sets (raisedBy m (part w₀ from n)) w₀ from (omega (arith, long)))
+          ∙ ap (λ (z : List ℕ). least (part z from n)) (all-stored .1)
+          ∙ ap (λ (k : ℕ). least (part (sets w from (raisedBy m (part w from n))) from k)) (sym raised-long)
+          ∙ ap least (part-sets (raisedBy m (part w from n)) w from (omega (arith, raised-long)))
 
-      pub raise-whole : r ≡ m → Got (raised m (part w₀ from n)) from w₀ w (Whole n)
+      pub raise-whole : l ≡ m → Got (raised m (part w from n)) from w w₁ (Whole n)
       unfolding raised
       raise-whole q =
-          got-stored _ from n w₀ w (raisedBy m (part w₀ from n)) (rw (ended .0, eq-eqb (least (raisedBy m (part w₀ from n))) m (sym lowest ∙ q))) long room (ended .1)
+          got-stored _ from n w w₁ (raisedBy m (part w from n)) (rw (all-stored .0, eq-eqb (least (raisedBy m (part w from n))) m (sym lowest ∙ q)))
+          raised-long room
+          (all-stored .1)
 
-      pub raise-low : (r ≡ m → ⊥) → Got (raised m (part w₀ from n)) from w₀ w (Refused fault)
+      pub raise-low : (l ≡ m → ⊥) → Got (raised m (part w from n)) from w w₁ (Refused fault)
       unfolding raised
       raise-low q =
-          got-refused _ from w₀ w fault (rw (ended .0, ne-eqb (least (raisedBy m (part w₀ from n))) m (λ z. q (lowest ∙ z))))
-          (ap (take from) (ended .1) ∙ take-sets (raisedBy m (part w₀ from n)) w₀ from from (omega arith))
+          got-refused _ from w w₁ fault (rw (all-stored .0, ne-eqb (least (raisedBy m (part w from n))) m (λ z. q (lowest ∙ z)))) (stored-kept so)

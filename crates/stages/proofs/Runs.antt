@@ -115,7 +115,8 @@ lengths-below m v k [] h l = below-cons m k [] (omega arith) (below-nil m (omega
 lengths-below m v k (x ∷ xs) h l =
     by-same x v
     (λ e. subst (Below m) (sym (lengths-same v x xs k e)) (lengths-below m v (k + 1) xs (omega arith) (omega arith)))
-    (λ e. subst (Below m) (sym (lengths-next v x xs k e)) (below-cons m k (lengthsAfter x 1 xs) (omega arith) (lengths-below m x 1 xs (omega arith) (omega arith))))
+    (λ e. subst (Below m) (sym (lengths-next v x xs k e))
+    (below-cons m k (lengthsAfter x 1 xs) (omega arith) (lengths-below m x 1 xs (omega arith) (omega arith))))
 
 pub run-values-below : (m : ℕ) (xs : List ℕ) → Below m xs → Below m (runValues xs)
 unfolding runValues
@@ -152,11 +153,17 @@ unfolding valuesAfter lengthsAfter unroll
 unroll-after v k [] = refl
 unroll-after v k (x ∷ xs) =
     by-same x v
-    (λ e. ap₂ unroll (values-same v x xs e) (lengths-same v x xs k e) ∙ unroll-after v (k + 1) xs ∙ one-more k v xs ∙ ap (λ (y : ℕ). replicate k v ++ (y ∷ xs)) (sym e))
+    (λ e. ap₂ unroll (values-same v x xs e) (lengths-same v x xs k e) ∙ unroll-after v (k + 1) xs ∙ one-more k v xs
+    ∙ ap (λ (y : ℕ). replicate k v ++ (y ∷ xs)) (sym e))
     (λ e. ap₂ unroll (values-next v x xs e) (lengths-next v x xs k e) ∙ ap (λ (l : List ℕ). replicate k v ++ l) (unroll-after x 1 xs))
 
 pub unrolled-runs : (xs : List ℕ) → unrolled (length xs) (runValues xs) (runLengths xs) ≡ given xs
 unfolding unrolled runValues runLengths all sum differ neighbours unroll
 unrolled-runs [] = refl
 unrolled-runs (x ∷ xs) =
-    rw (lengths-some x 1 xs (omega arith), eq-eqb (sum (lengthsAfter x 1 xs)) (suc (length xs)) (omega (arith, lengths-sum x 1 xs)), values-differ x xs, unroll-after x 1 xs)
+    rw (
+      lengths-some x 1 xs (omega arith),
+      eq-eqb (sum (lengthsAfter x 1 xs)) (suc (length xs)) (omega (arith, lengths-sum x 1 xs)),
+      values-differ x xs,
+      unroll-after x 1 xs,
+    )

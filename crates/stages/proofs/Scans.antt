@@ -1,20 +1,20 @@
 -- Loops that make a list of another, number by number, behind it or in its place: what is still to be stored, stored from here, is the whole.
 -- Assumes nothing.
-use Prim.Native.Nat.{ℕ, suc, _+_, _-_, _≤_, _<_}
-use mathlib.Core.Path.{_≡_, refl, sym, ap, _∙_}
-use mathlib.Core.Bool.{true, false}
+use Prim.Native.Nat.{ℕ, zero, suc, _+_, _-_, _≤_, _<_}
+use mathlib.Core.Path.{_≡_, refl, sym, ap, ap₂, _∙_}
 use mathlib.Core.List.{List, [], _∷_, map}
-use native.Mathlib.Nat.{add-zero}
+use native.Mathlib.Nat.{zero-add}
+use native.Mathlib.Numerals.{add-one}
 use native.Mathlib.Omega.{arith}
-use lib.ListN.{length, getD, take, drop, set, length-set}
-use lib.Seq.{sets, getD-set-other}
+use lib.ListN.{length, getD, take, drop, set, length-set, length-take}
+use lib.Seq.{sets, take-all, drop-cons}
 use borrow.Author.Tests.{lt-ltb, le-ltb}
 use Rattle.meaning.specs.Limits.{numberLimit}
-use Rattle.meaning.specs.Lists.{all}
 use Rattle.meaning.specs.Places.{part}
-use Rattle.meaning.specs.Stages.{lessBefore, sumsFrom, small}
-use Rattle.meaning.proofs.Stores.{take-sets}
-use Rattle.stages.proofs.Parts.{part-at, part-end}
+use Rattle.meaning.specs.Stages.{lessBefore, sumsFrom}
+use Rattle.meaning.proofs.Stores.{getD-sets, getD-past}
+use Rattle.stages.specs.Firsts.{firstSmall, Stored}
+use Rattle.stages.proofs.Parts.{part-length, part-at, part-end, stored-next}
 
 -- each number x becomes f s x, where s is a state that x takes to g s x
 pub record Scan (F : ℕ → List ℕ → List ℕ) (f g : ℕ → ℕ → ℕ) : Type 0 where
@@ -46,89 +46,102 @@ pub scan-length : (F : ℕ → List ℕ → List ℕ) (f g : ℕ → ℕ → ℕ
 scan-length F f g is s [] = ap length (is .none s)
 scan-length F f g is s (x ∷ xs) = ap length (is .next s x xs) ∙ ap suc (scan-length F f g is (g s x) xs)
 
+pub raised-at : (m : ℕ) (xs : List ℕ) (i : ℕ) → i < length xs → m + getD xs i 0 ≡ getD (raisedBy m xs) i 0
+raised-at m [] i h = absurd (omega arith)
+raised-at m (x ∷ xs) zero h = refl
+raised-at m (x ∷ xs) (suc i) h = raised-at m xs i (omega arith)
+
 -- ---- the loop: the list of n numbers stands from `from` on, what is made of it from b on; i numbers have been taken, the last led to the state s
 pub record Scanning (F : ℕ → List ℕ → List ℕ) (w₀ : List ℕ) (b from n s₀ : ℕ) (w : List ℕ) (s i : ℕ) : Type 0 where
+  pub room : from + n ≤ length w₀
   pub most : i ≤ n
   pub long : length w ≡ length w₀
-  pub ahead : (j : ℕ) → i ≤ j → j < n → getD w (from + j) 0 ≡ getD w₀ (from + j) 0
-  pub rest : sets w (b + i) (F s (drop i (part w₀ from n))) ≡ sets w₀ b (F s₀ (part w₀ from n))
+  pub here : w ≡ sets w₀ b (take i (F s₀ (part w₀ from n)))
+  pub rest : drop i (F s₀ (part w₀ from n)) ≡ F s (drop i (part w₀ from n))
 
--- what has been stored lies in no place that is still to be taken
-abbrev pub Clear : ℕ → ℕ → ℕ → Type 0
-Clear b from n = (i j : ℕ) → i < j → j < n → from + j ≡ b + i → ⊥
+module _ {F : ℕ → List ℕ → List ℕ} {f g : ℕ → ℕ → ℕ} (is : Scan F f g) {w₀ : List ℕ} {b from n s₀ : ℕ} where
+  pub scanning-start : from + n ≤ length w₀ → Scanning F w₀ b from n s₀ w₀ s₀ 0
+  scanning-start room = record { room = room; most = omega arith; long = refl; here = refl; rest = refl }
 
-pub behind : (from n : ℕ) → Clear (from + n) from n
-behind from n i j h k e = omega arith
+  module _ {w : List ℕ} {s i : ℕ} (so : Scanning F w₀ b from n s₀ w s i) where
+    abbrev all-made : List ℕ
+    all-made = F s₀ (part w₀ from n)
 
-pub inside : (from n : ℕ) → Clear from from n
-inside from n i j h k e = omega arith
+    made-long : length all-made ≡ n
+    made-long = scan-length F f g is s₀ (part w₀ from n) ∙ part-length w₀ from n (so .room)
 
-module _ (F : ℕ → List ℕ → List ℕ) (w₀ : List ℕ) (b from n s₀ : ℕ) where
-  pub scanning-start : Scanning F w₀ b from n s₀ w₀ s₀ 0
-  scanning-start = record { most = omega arith; long = refl; ahead = λ j h k. refl; rest = rw add-zero }
-
-  module _ (f g : ℕ → ℕ → ℕ) (is : Scan F f g) (room : from + n ≤ length w₀) (w : List ℕ) (s i : ℕ) (so : Scanning F w₀ b from n s₀ w s i) where
     -- the number at place i is what it was
-    opened : i < n → drop i (part w₀ from n) ≡ getD w (from + i) 0 ∷ drop (i + 1) (part w₀ from n)
-    opened h = part-at w₀ from n room i h ∙ ap (λ (x : ℕ). x ∷ drop (i + 1) (part w₀ from n)) (sym (so .ahead i (omega arith) h))
+    module _ (h : i < n) (same : getD w (from + i) 0 ≡ getD w₀ (from + i) 0) where
+      next-made : F s (drop i (part w₀ from n)) ≡ f s (getD w (from + i) 0) ∷ F (g s (getD w (from + i) 0)) (drop (i + 1) (part w₀ from n))
+      next-made =
+          ap (F s) (part-at w₀ from n (so .room) i h ∙ ap (λ (x : ℕ). x ∷ drop (i + 1) (part w₀ from n)) (sym same))
+          ∙ is .next s (getD w (from + i) 0) (drop (i + 1) (part w₀ from n))
 
-    made : i < n → F s (drop i (part w₀ from n)) ≡ f s (getD w (from + i) 0) ∷ F (g s (getD w (from + i) 0)) (drop (i + 1) (part w₀ from n))
-    made h = ap (F s) (opened h) ∙ is .next s (getD w (from + i) 0) (drop (i + 1) (part w₀ from n))
-
-    pub scanning-turn : Clear b from n → (y : ℕ) → i < n → y ≡ f s (getD w (from + i) 0) → Scanning F w₀ b from n s₀ (set w (b + i) y) (g s (getD w (from + i) 0)) (i + 1)
-    scanning-turn clear y h e =
-        let x = getD w (from + i) 0 in
-        let l = drop (i + 1) (part w₀ from n) in
-        let next : b + (i + 1) ≡ suc (b + i) = omega arith in
-        record {
-          most = omega arith;
-          long = length-set w (b + i) y ∙ so .long;
-          ahead = λ j k m. getD-set-other w (b + i) (from + j) y 0 (clear i j (omega arith) m) ∙ so .ahead j (omega arith) m;
-          rest = rw (next, e) (ap (sets w (b + i)) (sym (made h)) ∙ so .rest);
-        }
+      scanning-turn : (y : ℕ) → y ≡ f s (getD w (from + i) 0) → Scanning F w₀ b from n s₀ (set w (b + i) y) (g s (getD w (from + i) 0)) (i + 1)
+      scanning-turn y e =
+          let zs = F (g s (getD w (from + i) 0)) (drop (i + 1) (part w₀ from n)) in
+          let below : i < length all-made = omega (arith, made-long) in
+          let split : getD all-made i 0 ∷ drop (suc i) all-made ≡ f s (getD w (from + i) 0) ∷ zs = sym (drop-cons all-made i 0 below) ∙ so .rest ∙ next-made in
+          let here : getD all-made i 0 ≡ y = cc in
+          let after : drop (suc i) all-made ≡ zs = cc in
+          record {
+            room = so .room;
+            most = omega arith;
+            long = length-set w (b + i) y ∙ so .long;
+            here = ap₂ (λ (l : List ℕ) (x : ℕ). set l (b + i) x) (so .here) (sym here) ∙ stored-next all-made w₀ b i below;
+            rest = ap (λ (k : ℕ). drop k all-made) (add-one i) ∙ after;
+          }
 
     -- all has been taken: the whole is stored
-    pub scanning-end : n ≤ i → w ≡ sets w₀ b (F s₀ (part w₀ from n))
-    scanning-end h = ap (sets w (b + i)) (sym (ap (F s) (part-end w₀ from n i h) ∙ is .none s)) ∙ so .rest
+    pub scanning-end : n ≤ i → w ≡ sets w₀ b all-made
+    scanning-end h = so .here ∙ ap (sets w₀ b) (take-all i all-made (omega (arith, made-long)))
 
-    pub scanning-kept : take b w ≡ take b w₀
-    scanning-kept =
-        sym (take-sets (F s (drop i (part w₀ from n))) w b (b + i) (omega arith))
-        ∙ ap (take b) (so .rest)
-        ∙ take-sets (F s₀ (part w₀ from n)) w₀ b b (omega arith)
+-- what is made stands behind the list
+module _ {F : ℕ → List ℕ → List ℕ} {f g : ℕ → ℕ → ℕ} (is : Scan F f g) {w₀ : List ℕ} {from n s₀ : ℕ} {w : List ℕ} {s i : ℕ}
+    (so : Scanning F w₀ (from + n) from n s₀ w s i) where
+  pub behind-turn : i < n → {y : ℕ} → y ≡ f s (getD w (from + i) 0)
+      → Scanning F w₀ (from + n) from n s₀ (set w (from + n + i) y) (g s (getD w (from + i) 0)) (i + 1)
+  behind-turn h {y} e =
+      let made = take i (F s₀ (part w₀ from n)) in
+      let same : getD w (from + i) 0 ≡ getD w₀ (from + i) 0
+      = ap (λ (l : List ℕ). getD l (from + i) 0) (so .here) ∙ getD-sets made w₀ (from + i) (from + n) 0 (omega arith) in
+      scanning-turn is so h same y e
 
--- ---- the same in the list's own place, where a number may be too large
+-- ---- the same in the list's own place, up to the first number that is too large
 pub record Tested (F : ℕ → List ℕ → List ℕ) (w₀ : List ℕ) (from n s₀ : ℕ) (w : List ℕ) (s i : ℕ) : Type 0 where
   pub scan : Scanning F w₀ from from n s₀ w s i
-  pub test : small (F s₀ (part w₀ from n)) ≡ small (F s (drop i (part w₀ from n)))
+  pub many : firstSmall (F s₀ (part w₀ from n)) ≡ i + firstSmall (F s (drop i (part w₀ from n)))
 
-module _ (F : ℕ → List ℕ → List ℕ) (f g : ℕ → ℕ → ℕ) (is : Scan F f g) (w₀ : List ℕ) (from n s₀ : ℕ) where
-  pub tested-start : Tested F w₀ from n s₀ w₀ s₀ 0
-  tested-start = record { scan = scanning-start F w₀ from from n s₀; test = refl }
+module _ {F : ℕ → List ℕ → List ℕ} {f g : ℕ → ℕ → ℕ} (is : Scan F f g) {w₀ : List ℕ} {from n s₀ : ℕ} where
+  pub tested-start : from + n ≤ length w₀ → Tested F w₀ from n s₀ w₀ s₀ 0
+  tested-start room = record { scan = scanning-start is room; many = sym (zero-add (firstSmall (F s₀ (part w₀ from n)))) }
 
-  module _ (room : from + n ≤ length w₀) (w : List ℕ) (s i : ℕ) (so : Tested F w₀ from n s₀ w s i) where
-    next-test : i < n → small (F s₀ (part w₀ from n)) ≡ small (f s (getD w (from + i) 0) ∷ F (g s (getD w (from + i) 0)) (drop (i + 1) (part w₀ from n)))
-    next-test h = so .test ∙ ap small (made F w₀ from from n s₀ f g is room w s i (so .scan) h)
+  module _ {w : List ℕ} {s i : ℕ} (so : Tested F w₀ from n s₀ w s i) where
+    same-here : getD w (from + i) 0 ≡ getD w₀ (from + i) 0
+    same-here =
+        let made = take i (F s₀ (part w₀ from n)) in
+        ap (λ (l : List ℕ). getD l (from + i) 0) (so .scan .here) ∙ getD-past made w₀ from (from + i) 0 (omega (arith, length-take i (F s₀ (part w₀ from n))))
 
-    pub tested-turn : i < n → f s (getD w (from + i) 0) < numberLimit → Tested F w₀ from n s₀ (set w (from + i) (f s (getD w (from + i) 0))) (g s (getD w (from + i) 0)) (i + 1)
-    unfolding small all
+    pub tested-turn : i < n → f s (getD w (from + i) 0) < numberLimit
+        → Tested F w₀ from n s₀ (set w (from + i) (f s (getD w (from + i) 0))) (g s (getD w (from + i) 0)) (i + 1)
+    unfolding firstSmall
     tested-turn h k =
+        let y = f s (getD w (from + i) 0) in
+        let zs = F (g s (getD w (from + i) 0)) (drop (i + 1) (part w₀ from n)) in
+        let first : firstSmall (y ∷ zs) ≡ suc (firstSmall zs) = rw (lt-ltb y numberLimit k) in
         record {
-          scan = scanning-turn F w₀ from from n s₀ f g is room w s i (so .scan) (inside from n) (f s (getD w (from + i) 0)) h refl;
-          test = next-test h ∙ rw (lt-ltb (f s (getD w (from + i) 0)) numberLimit k);
+          scan = scanning-turn is (so .scan) h same-here y refl;
+          many = omega (arith, so .many, ap firstSmall (next-made is (so .scan) h same-here), first);
         }
 
-    -- a number is too large
-    pub tested-over : i < n → numberLimit ≤ f s (getD w (from + i) 0) → (small (F s₀ (part w₀ from n)) ≡ false) × (take from w ≡ take from w₀)
-    unfolding small all
-    tested-over h k = (
-      next-test h ∙ rw (le-ltb (f s (getD w (from + i) 0)) numberLimit k),
-      scanning-kept F w₀ from from n s₀ f g is room w s i (so .scan),
-    )
+    tested-stop : firstSmall (F s (drop i (part w₀ from n))) ≡ 0 → Stored (F s₀ (part w₀ from n)) from w₀ w i
+    tested-stop z = record { many = omega (arith, so .many); here = so .scan .here }
 
-    pub tested-end : n ≤ i → (small (F s₀ (part w₀ from n)) ≡ true) × (w ≡ sets w₀ from (F s₀ (part w₀ from n)))
-    unfolding small all
-    tested-end h = (
-      so .test ∙ ap (λ (l : List ℕ). small (F s l)) (part-end w₀ from n i h) ∙ ap small (is .none s),
-      scanning-end F w₀ from from n s₀ f g is room w s i (so .scan) h,
-    )
+    -- a number is too large, or there is none more
+    pub tested-over : i < n → numberLimit ≤ f s (getD w (from + i) 0) → Stored (F s₀ (part w₀ from n)) from w₀ w i
+    unfolding firstSmall
+    tested-over h k = tested-stop (ap firstSmall (next-made is (so .scan) h same-here) ∙ rw (le-ltb (f s (getD w (from + i) 0)) numberLimit k))
+
+    pub tested-end : n ≤ i → Stored (F s₀ (part w₀ from n)) from w₀ w i
+    unfolding firstSmall
+    tested-end h = tested-stop (ap (λ (l : List ℕ). firstSmall (F s l)) (part-end w₀ from n i h) ∙ ap firstSmall (is .none s))

@@ -1,53 +1,85 @@
 -- Loops that walk a list: what is still to be asked, asked from here, is the whole. Assumes nothing.
-use Prim.Native.Nat.{ℕ, _+_, _≤_, _<_, min}
-use mathlib.Core.Path.{_≡_, sym, ap, _∙_}
+use Prim.Native.Nat.{ℕ, _+_, _*_, _≤_, _<_, min}
+use mathlib.Core.Path.{_≡_, refl, sym, ap, _∙_}
 use mathlib.Core.Bool.{Bool, true, false, _&&_}
 use mathlib.Core.List.{List, _∷_}
+use native.Mathlib.Omega.{arith}
 use lib.ListN.{length, getD, drop}
-use Rattle.meaning.specs.Lists.{neighbours}
+use Rattle.meaning.specs.Limits.{numberLimit}
+use Rattle.meaning.specs.Lists.{neighbours, sum}
 use Rattle.meaning.specs.Places.{part}
 use Rattle.meaning.specs.Stages.{leastOf, least}
 use Rattle.stages.proofs.Parts.{part-at, part-first, part-end}
 
 -- ---- neighbours: v is the number before place i
-module _ (test : ℕ → ℕ → Bool) (w : List ℕ) (from n : ℕ) (room : from + n ≤ length w) where
-  pub neighbours-none : n ≡ 0 → true ≡ neighbours test (part w from n)
+pub record Comparing (test : ℕ → ℕ → Bool) (w : List ℕ) (from n v i : ℕ) : Type 0 where
+  pub room : from + n ≤ length w
+  pub rest : neighbours test (part w from n) ≡ neighbours test (v ∷ drop i (part w from n))
+
+pub comparing-none : (test : ℕ → ℕ → Bool) (w : List ℕ) (from n : ℕ) → n ≡ 0 → true ≡ neighbours test (part w from n)
+unfolding neighbours
+comparing-none test w from n e = rw e
+
+pub comparing-start : {test : ℕ → ℕ → Bool} {w : List ℕ} {from n : ℕ} → from + n ≤ length w → (n ≡ 0 → ⊥) → Comparing test w from n (getD w from 0) 1
+comparing-start {test} {w} {from} {n} room h = record { room = room; rest = ap (neighbours test) (part-first w from n room h) }
+
+module _ {test : ℕ → ℕ → Bool} {w : List ℕ} {from n v i : ℕ} (so : Comparing test w from n v i) where
+  next-compared : i < n → neighbours test (part w from n) ≡ test v (getD w (from + i) 0) && neighbours test (getD w (from + i) 0 ∷ drop (i + 1) (part w from n))
   unfolding neighbours
-  neighbours-none e = rw e
+  next-compared h = so .rest ∙ ap (λ (l : List ℕ). neighbours test (v ∷ l)) (part-at w from n (so .room) i h)
 
-  pub neighbours-start : (n ≡ 0 → ⊥) → neighbours test (part w from n) ≡ neighbours test (getD w from 0 ∷ drop 1 (part w from n))
-  neighbours-start h = ap (neighbours test) (part-first w from n room h)
+  pub comparing-turn : i < n → test v (getD w (from + i) 0) ≡ true → Comparing test w from n (getD w (from + i) 0) (i + 1)
+  comparing-turn h e = record { room = so .room; rest = next-compared h ∙ rw e }
 
-  module _ (v i : ℕ) (t : Bool) (so : t ≡ neighbours test (v ∷ drop i (part w from n))) where
-    opened : i < n → t ≡ test v (getD w (from + i) 0) && neighbours test (getD w (from + i) 0 ∷ drop (i + 1) (part w from n))
-    unfolding neighbours
-    opened h = so ∙ ap (λ (l : List ℕ). neighbours test (v ∷ l)) (part-at w from n room i h)
+  pub comparing-fail : i < n → test v (getD w (from + i) 0) ≡ false → false ≡ neighbours test (part w from n)
+  comparing-fail h e = sym (next-compared h ∙ rw e)
 
-    pub neighbours-turn : i < n → test v (getD w (from + i) 0) ≡ true → t ≡ neighbours test (getD w (from + i) 0 ∷ drop (i + 1) (part w from n))
-    neighbours-turn h e = opened h ∙ rw e
-
-    pub neighbours-fail : i < n → test v (getD w (from + i) 0) ≡ false → false ≡ t
-    neighbours-fail h e = sym (opened h ∙ rw e)
-
-    pub neighbours-end : n ≤ i → true ≡ t
-    unfolding neighbours
-    neighbours-end h = sym (so ∙ ap (λ (l : List ℕ). neighbours test (v ∷ l)) (part-end w from n i h))
+  pub comparing-end : n ≤ i → true ≡ neighbours test (part w from n)
+  unfolding neighbours
+  comparing-end h = sym (so .rest ∙ ap (λ (l : List ℕ). neighbours test (v ∷ l)) (part-end w from n i h))
 
 -- ---- the least number: m is the least so far
-module _ (w : List ℕ) (from n : ℕ) (room : from + n ≤ length w) where
-  pub least-none : n ≡ 0 → 0 ≡ least (part w from n)
-  unfolding least
-  least-none e = rw e
+pub record Lowering (w : List ℕ) (from n m i : ℕ) : Type 0 where
+  pub room : from + n ≤ length w
+  pub rest : leastOf m (drop i (part w from n)) ≡ least (part w from n)
 
-  pub least-start : (n ≡ 0 → ⊥) → leastOf (getD w from 0) (drop 1 (part w from n)) ≡ least (part w from n)
-  unfolding least
-  least-start h = sym (ap least (part-first w from n room h))
+pub lowering-none : (w : List ℕ) (from n : ℕ) → n ≡ 0 → 0 ≡ least (part w from n)
+unfolding least
+lowering-none w from n e = rw e
 
-  module _ (m i r : ℕ) (so : leastOf m (drop i (part w from n)) ≡ r) where
-    pub least-turn : (m′ : ℕ) → i < n → m′ ≡ min m (getD w (from + i) 0) → leastOf m′ (drop (i + 1) (part w from n)) ≡ r
-    unfolding leastOf
-    least-turn m′ h e = ap (λ (k : ℕ). leastOf k (drop (i + 1) (part w from n))) e ∙ sym (ap (leastOf m) (part-at w from n room i h)) ∙ so
+pub lowering-start : {w : List ℕ} {from n : ℕ} → from + n ≤ length w → (n ≡ 0 → ⊥) → Lowering w from n (getD w from 0) 1
+unfolding least
+lowering-start {w} {from} {n} room h = record { room = room; rest = sym (ap least (part-first w from n room h)) }
 
-    pub least-end : n ≤ i → m ≡ r
-    unfolding leastOf
-    least-end h = sym (ap (leastOf m) (part-end w from n i h)) ∙ so
+module _ {w : List ℕ} {from n m i : ℕ} (so : Lowering w from n m i) where
+  pub lowering-turn : i < n → {m′ : ℕ} → m′ ≡ min m (getD w (from + i) 0) → Lowering w from n m′ (i + 1)
+  unfolding leastOf
+  lowering-turn h e =
+      record {
+        room = so .room;
+        rest = ap (λ (k : ℕ). leastOf k (drop (i + 1) (part w from n))) e ∙ sym (ap (leastOf m) (part-at w from n (so .room) i h)) ∙ so .rest;
+      }
+
+  pub lowering-end : n ≤ i → m ≡ least (part w from n)
+  unfolding leastOf
+  lowering-end h = sym (ap (leastOf m) (part-end w from n i h)) ∙ so .rest
+
+-- ---- the sum: s is that of the first i numbers
+pub record Adding (w : List ℕ) (from n s i : ℕ) : Type 0 where
+  pub room : from + n ≤ length w
+  pub most : i ≤ n
+  pub small : s ≤ i * numberLimit
+  pub rest : s + sum (drop i (part w from n)) ≡ sum (part w from n)
+
+pub adding-start : {w : List ℕ} {from n : ℕ} → from + n ≤ length w → Adding w from n 0 0
+adding-start room = record { room = room; most = omega arith; small = omega arith; rest = omega arith }
+
+module _ {w : List ℕ} {from n s i : ℕ} (so : Adding w from n s i) where
+  pub adding-turn : i < n → {x : ℕ} → x ≡ getD w (from + i) 0 → x < numberLimit → Adding w from n (s + x) (i + 1)
+  unfolding sum
+  adding-turn h e l =
+      record { room = so .room; most = omega arith; small = omega (arith, so .small); rest = omega (arith, so .rest, ap sum (part-at w from n (so .room) i h)) }
+
+  pub adding-end : n ≤ i → s ≡ sum (part w from n)
+  unfolding sum
+  adding-end h = omega (arith, so .rest, ap sum (part-end w from n i h))

@@ -54,7 +54,8 @@ pub record Split (k : ℕ) (first second body : List ℕ) : Type 0 where
   pub front : take (wordAt body 4) (drop 8 body) ≡ first
   pub back : drop (8 + wordAt body 4) body ≡ second
 
-pub words-split : (k : ℕ) (first second : List ℕ) → k < numberLimit → length first < numberLimit → Split k first second (word k ++ (word (length first) ++ (first ++ second)))
+pub words-split : (k : ℕ) (first second : List ℕ) → k < numberLimit → length first < numberLimit
+    → Split k first second (word k ++ (word (length first) ++ (first ++ second)))
 words-split k first second h l =
     let len = length first in
     let rest = word len ++ (first ++ second) in

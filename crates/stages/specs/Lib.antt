@@ -1,2 +1,6 @@
--- What this crate's functions leave in work, in the meaning's words.
+-- What this crate's functions leave in work, in the meaning's words, and the room that plans ask for.
+pub mod Firsts
+pub mod Header
+pub mod Room
 pub mod Runs
+pub mod Seeks

@@ -1,4 +1,12 @@
 // The work below the stages: lists live in one work slice, and what a stage makes of a list is made behind it or in its place.
+mod header;
+
+pub use header::Header;
+pub use header::header_of;
+use leaves::lesser;
+use leaves::long;
+use leaves::whole;
+use meaning::FAULT;
 use meaning::Place;
 use meaning::Reading;
 ghost use mathlib.Core.Path.{_≡_};
@@ -6,22 +14,16 @@ ghost use mathlib.Core.List.{map};
 ghost use Prim.Native.Nat.{ℕ, _+_, _-_, _*_, _^_, _≤_, _<_, min};
 ghost use lib.ListN.{length, replicate};
 ghost use lib.Seq.{sets};
-ghost use Rattle.meaning.specs.Lists.{rises, differ};
+ghost use Rattle.meaning.specs.Limits.{mostNumbers, numberLimit};
+ghost use Rattle.meaning.specs.Lists.{rises, differ, sum};
 ghost use Rattle.meaning.specs.Places.{part, Got};
-ghost use Rattle.meaning.specs.Stages.{least, lessBefore, raised, summed, unrolled};
-ghost use Rattle.stages.specs.Runs.{RunsMade};
-
-// Fault in a body.
-const FAULT: u8 = 9;
+ghost use Rattle.meaning.specs.Stages.{least, lessBefore, sumsFrom, raised, summed, unrolled};
+ghost use Rattle.stages.specs.Firsts.{Stored};
+ghost use Rattle.stages.specs.Runs.{RunsMade, runFits, Spread};
+ghost use Rattle.stages.specs.Seeks.{Seeks};
 
 // The largest number.
 const MOST: u32 = 4294967295;
-
-fn wide(x: u32) -> usize
-    ensures { λ r. ⌜ r ≡ x ⌝ }
-{
-    x as usize
-}
 
 fn smaller(a: u32, b: u32) -> u32
     ensures { λ r. ⌜ r ≡ min a b ⌝ }
@@ -162,32 +164,29 @@ pub fn runs_into(work: &mut [u32], from: Place, n: usize) -> usize
     j + 1
 }
 
-// ---- below reading
-// Each number of a list becomes its sum with the reference m, which must then be the least.
-pub fn raise(work: &mut [u32], from: Place, n: usize, m: u32) -> Reading
+// ---- below reading and lookup: the first numbers of a list, as many as are right
+// Each number of a list becomes its sum with the reference m, up to the first that is too large. Answers how many.
+pub fn raise_firsts(work: &mut [u32], from: Place, n: usize, m: u32) -> usize
     requires { ⌜ from .number + n ≤ length (now work) ⌝ }
-    ensures { λ r. ⌜ Got (raised m (part (now (work .entry)) (from .number) n)) (from .number) (now (work .entry)) (now (work .exit)) r ⌝ }
+    ensures { λ r. ⌜ Stored (map (λ (x : ℕ). m + x) (part (now (work .entry)) (from .number) n)) (from .number) (now (work .entry)) (now (work .exit)) r ⌝ }
 {
     let first = from.number;
     let mut i = 0;
     while i < n {
         let x = work[first + i];
         if MOST - m < x {
-            return Reading::Refused(FAULT);
+            return i;
         }
         work[first + i] = m + x;
         i += 1;
     }
-    if least_of(work, from, n) == m {
-        return Reading::Whole(n);
-    }
-    Reading::Refused(FAULT)
+    i
 }
 
-// Each number of a list becomes its sum with all before.
-pub fn sum_up(work: &mut [u32], from: Place, n: usize) -> Reading
+// Each number of a list becomes its sum with all before, up to the first that is too large. Answers how many.
+pub fn sum_firsts(work: &mut [u32], from: Place, n: usize) -> usize
     requires { ⌜ from .number + n ≤ length (now work) ⌝ }
-    ensures { λ r. ⌜ Got (summed (part (now (work .entry)) (from .number) n)) (from .number) (now (work .entry)) (now (work .exit)) r ⌝ }
+    ensures { λ r. ⌜ Stored (sumsFrom 0 (part (now (work .entry)) (from .number) n)) (from .number) (now (work .entry)) (now (work .exit)) r ⌝ }
 {
     let first = from.number;
     let mut s: u32 = 0;
@@ -195,13 +194,28 @@ pub fn sum_up(work: &mut [u32], from: Place, n: usize) -> Reading
     while i < n {
         let x = work[first + i];
         if MOST - s < x {
-            return Reading::Refused(FAULT);
+            return i;
         }
         s = s + x;
         work[first + i] = s;
         i += 1;
     }
-    Reading::Whole(n)
+    i
+}
+
+// The sum of a list.
+pub fn total_of(work: &[u32], from: Place, n: usize) -> u64
+    requires { ⌜ (from .number + n ≤ length (now work)) × (n ≤ mostNumbers) ⌝ }
+    ensures { λ r. ⌜ (r ≡ sum (part (now (work .entry)) (from .number) n)) × (r ≤ n * numberLimit) ⌝ }
+{
+    let first = from.number;
+    let mut s: u64 = 0;
+    let mut i = 0;
+    while i < n {
+        s += long(work[first + i]);
+        i += 1;
+    }
+    s
 }
 
 // One value, n times over.
@@ -217,34 +231,129 @@ fn fill(work: &mut [u32], from: Place, n: usize, v: u32)
     }
 }
 
+// How many runs are laid, and how many numbers they hold.
+pub struct Laid {
+    pub runs: usize,
+    pub numbers: usize,
+}
+
+// Whether a run of so many numbers may follow `done` of n: it is not empty, and it ends within n.
+pub fn run_fits(n: usize, done: usize, length: u32) -> bool
+    requires { ⌜ done ≤ n ⌝ }
+    ensures { λ r. ⌜ r ≡ runFits n done length ⌝ }
+{
+    if length == 0 {
+        return false;
+    }
+    whole(length) <= n - done
+}
+
+// A run sought in some lengths: which of them it is, or how many numbers stand in their runs if it is none of them, or the refusal.
+pub enum Sought {
+    At(Place),
+    After(Place),
+    Refused(u8),
+}
+
+// The run that holds a place of n, sought in the first `count` lengths, which begin after `done` numbers.
+pub fn seek_in(lengths: &[u32], count: usize, n: usize, place: Place, done: Place) -> Sought
+    requires { ⌜ (count ≤ length (now lengths)) × (done .number ≤ n) ⌝ }
+    ensures { λ r. ⌜ Seeks (now (lengths .entry)) count n (place .number) (done .number) r ⌝ }
+{
+    let goal = place.number;
+    let mut end = done.number;
+    let mut j: usize = 0;
+    while j < count {
+        let length = lengths[j];
+        if !run_fits(n, end, length) {
+            return Sought::Refused(FAULT);
+        }
+        end += whole(length);
+        if goal < end {
+            return Sought::At(Place { number: j });
+        }
+        j += 1;
+    }
+    Sought::After(Place { number: end })
+}
+
+// The first `goal` numbers of n that k runs make, up to the first run that does not fit: the runs' values stand n places after them, their lengths 2n.
+pub fn spread(work: &mut [u32], from: Place, n: usize, goal: usize, k: usize) -> Laid
+    requires { ⌜ (from .number + 3 * n ≤ length (now work)) × (goal ≤ n) × (k ≤ n) ⌝ }
+    ensures { λ r. ⌜ Spread (part (now (work .entry)) (from .number + n) k) (part (now (work .entry)) (from .number + 2 * n) k) n goal (from .number) (now (work .entry)) (now (work .exit)) r ⌝ }
+{
+    let first = from.number;
+    let mut done = 0;
+    let mut j = 0;
+    while done < goal {
+        if j == k {
+            return Laid {
+                runs: j,
+                numbers: done,
+            };
+        }
+        let length = work[first + 2 * n + j];
+        if !run_fits(n, done, length) {
+            return Laid {
+                runs: j,
+                numbers: done,
+            };
+        }
+        let v = work[first + n + j];
+        let next = done + whole(length);
+        let to = first + done;
+        let more = lesser(next, goal) - done;
+        fill(work, Place { number: to }, more, v);
+        done = next;
+        j += 1;
+    }
+    Laid {
+        runs: j,
+        numbers: done,
+    }
+}
+
+// ---- below reading: all of them
+// Each number of a list becomes its sum with the reference m, which must then be the least.
+pub fn raise(work: &mut [u32], from: Place, n: usize, m: u32) -> Reading
+    requires { ⌜ from .number + n ≤ length (now work) ⌝ }
+    ensures { λ r. ⌜ Got (raised m (part (now (work .entry)) (from .number) n)) (from .number) (now (work .entry)) (now (work .exit)) r ⌝ }
+{
+    if raise_firsts(work, from, n, m) < n {
+        return Reading::Refused(FAULT);
+    }
+    if least_of(work, from, n) == m {
+        return Reading::Whole(n);
+    }
+    Reading::Refused(FAULT)
+}
+
+// Each number of a list becomes its sum with all before.
+pub fn sum_up(work: &mut [u32], from: Place, n: usize) -> Reading
+    requires { ⌜ from .number + n ≤ length (now work) ⌝ }
+    ensures { λ r. ⌜ Got (summed (part (now (work .entry)) (from .number) n)) (from .number) (now (work .entry)) (now (work .exit)) r ⌝ }
+{
+    if sum_firsts(work, from, n) < n {
+        return Reading::Refused(FAULT);
+    }
+    Reading::Whole(n)
+}
+
 // k runs become a list of n numbers: their values stand n places after it, their lengths 2n.
 pub fn unroll_into(work: &mut [u32], from: Place, n: usize, k: usize) -> Reading
     requires { ⌜ (from .number + 3 * n ≤ length (now work)) × (k ≤ n) ⌝ }
     ensures { λ r. ⌜ Got (unrolled n (part (now (work .entry)) (from .number + n) k) (part (now (work .entry)) (from .number + 2 * n) k)) (from .number) (now (work .entry)) (now (work .exit)) r ⌝ }
 {
-    let first = from.number;
-    let values = first + n;
+    let values = from.number + n;
     if !differs_in(work, Place { number: values }, k) {
         return Reading::Refused(FAULT);
     }
-    let mut done = 0;
-    let mut j = 0;
-    while j < k {
-        let v = work[values + j];
-        let l = wide(work[first + 2 * n + j]);
-        if l == 0 {
-            return Reading::Refused(FAULT);
-        }
-        if n - done < l {
-            return Reading::Refused(FAULT);
-        }
-        let to = first + done;
-        fill(work, Place { number: to }, l, v);
-        done += l;
-        j += 1;
+    let laid = spread(work, from, n, n, k);
+    if laid.runs < k {
+        return Reading::Refused(FAULT);
     }
-    if done == n {
-        return Reading::Whole(n);
+    if laid.numbers < n {
+        return Reading::Refused(FAULT);
     }
-    Reading::Refused(FAULT)
+    Reading::Whole(n)
 }

@@ -1,7 +1,11 @@
 // The table's entries: where they stand, what they say, and where bodies begin.
 use fields::word_at;
 use leaves::wide;
+use meaning::ENTRY_SIZE;
+use meaning::HEAD_SIZE;
+use meaning::MOST_NUMBERS;
 use meaning::Offset;
+use meaning::RISING;
 ghost use mathlib.Core.Path.{_≡_};
 ghost use Prim.Native.Nat.{_+_, _*_, _<_, _≤_, _^_};
 ghost use lib.ListN.{length};
@@ -11,12 +15,6 @@ ghost use Rattle.meaning.specs.Sheet.{entrySize, tableSize, columnsOf, columnAt
 ghost use Rattle.table.specs.Offsets.{columnCount, entryOffset, bodyOffset, Within};
 ghost use Rattle.table.specs.Rules.{entryHolds};
 
-// The edition and the number of columns stand before the entries.
-const HEAD_SIZE: usize = 2;
-
-// An entry: its kind, its plan, its count and its body's length.
-const ENTRY_SIZE: usize = 24;
-
 // Where its plan stands in an entry.
 const PLAN_IN: usize = 1;
 
@@ -25,12 +23,6 @@ const COUNT_IN: usize = 16;
 
 // Where its body's length stands.
 const SIZE_IN: usize = 20;
-
-// Rising, the largest kind.
-const RISING: u8 = 1;
-
-// A list's numbers.
-const MOST_NUMBERS: usize = 1024;
 
 // The number of columns.
 pub fn column_count(sheet: &[u8]) -> usize

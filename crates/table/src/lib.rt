@@ -8,7 +8,10 @@ use crate::entries::size_at;
 use crate::rules::is_sheet;
 use crate::rules::plans_pass;
 use crate::rules::table_holds;
+use meaning::BAD_TABLE;
 use meaning::Checked;
+use meaning::NO_COLUMN;
+use meaning::NO_SHEET;
 use meaning::Offset;
 ghost use mathlib.Core.Path.{_≡_};
 ghost use Rattle.meaning.specs.Answer.{passed, list, number};
@@ -19,15 +22,6 @@ ghost use Rattle.table.specs.Entries.{Here, EntryIs, ColumnIs};
 
 pub mod entries;
 pub mod rules;
-
-// Refused: no sheet.
-const NO_SHEET: u8 = 1;
-
-// Refused: a table that does not hold.
-const BAD_TABLE: u8 = 2;
-
-// Refused: no such column.
-const NO_COLUMN: u8 = 5;
 
 // A column by its entry: its kind, where its 15 plan bytes begin, its count, its body's length and where its body begins.
 pub struct Entry {

@@ -7,7 +7,10 @@ use crate::entries::kind_at;
 use crate::entries::plan_start;
 use judge::judge_plan;
 use meaning::Checked;
+use meaning::EDITION;
 use meaning::Judged;
+use meaning::MOST_BYTES;
+use meaning::PLAN_BYTES;
 ghost use mathlib.Core.Path.{_≡_};
 ghost use mathlib.Core.Bool.{true};
 ghost use Prim.Native.Nat.{_≤_};
@@ -17,17 +20,8 @@ ghost use Rattle.meaning.specs.Says.{checkedSays};
 ghost use Rattle.meaning.specs.Sheet.{tableSize, columnsOf, isSheet, tableHolds};
 ghost use Rattle.table.specs.Rules.{planJudged};
 
-// A sheet's bytes.
-const MOST_BYTES: usize = 65536;
-
 // A sheet's columns.
 const MOST_COLUMNS: u8 = 16;
-
-// A plan's length.
-const PLAN_BYTES: usize = 15;
-
-// The edition.
-const EDITION: u8 = 1;
 
 // Whether it is a sheet: from 2 to 65,536 bytes, byte 0 is 1, at most 16 columns.
 pub fn is_sheet(sheet: &[u8]) -> bool

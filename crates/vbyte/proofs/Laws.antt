@@ -1,10 +1,10 @@
 -- VByte is lawful: what it writes reads back, what it reads is what would be written, and its size is as told. Assumes nothing.
-use Prim.Native.Nat.{ℕ, suc, _+_, _-_, _*_, _≤_}
+use Prim.Native.Nat.{ℕ, zero, suc, _+_, _-_, _*_, _≤_}
 use mathlib.Core.Path.{_≡_, refl, sym, ap, _∙_, subst}
-use mathlib.Core.Bool.{true}
+use mathlib.Core.Bool.{true, not}
 use mathlib.Core.List.{List, [], _∷_, _++_}
 use native.Mathlib.Omega.{arith}
-use lib.Dec.{eqb}
+use lib.Dec.{ltb, leb, eqb}
 use lib.ListN.{length, drop, length-append, length-drop, drop-of-length-le}
 use lib.Seq.{drop-append-seam, drop-drop}
 use borrow.Author.Tests.{eq-eqb, eqb-true}
@@ -14,10 +14,11 @@ use Rattle.meaning.specs.Limits.{numberLimit}
 use Rattle.meaning.specs.Lists.{joined}
 use Rattle.meaning.specs.Places.{Below}
 use Rattle.meaning.specs.Positions.{atByte}
-use Rattle.meaning.specs.VByte.{vbyte, vbyteIn, unitVByte}
+use Rattle.meaning.specs.VByte.{vbyte, laterIn, vbyteIn, unitVByte}
 use Rattle.meaning.specs.declared.Position.{Position}
-use Rattle.meaning.proofs.Answers.{bind-given}
+use Rattle.meaning.proofs.Answers.{Faulty, bind-given, bind-faulty, need-faulty, cond-faulty}
 use Rattle.meaning.proofs.Bounds.{below-nil, below-cons, below-drop, below-append}
+use Rattle.meaning.proofs.Codes.{spare-always}
 use Rattle.meaning.proofs.Lawful.{Lawful, Read}
 use Rattle.meaning.proofs.Units.{Good, Whole, read-many, read-written, read-holds}
 use Rattle.vbyte.proofs.Sevens.{number-vbyte, number-back, vbyte-small, vbyte-most}
@@ -35,12 +36,29 @@ one body left p u e =
     let (t, en, eu) = bind-given (vbyteIn (drop (p .head .byte) body)) _ u e in
     record { number = t .0; size = t .1; is = cc; read = en }
 
-pub good : (body : List ℕ) → Good (unitVByte body)
+good : (body : List ℕ) → Good (unitVByte body)
 good body =
     record {
       some = λ left p u h e. rw (one body left p u e .is) (omega arith);
       few = λ left p u h e. rw (one body left p u e .is) (omega arith);
     }
+
+-- ---- whatever a number is refused by is a fault
+later-faulty : (k : ℕ) (bs : List ℕ) → Faulty (laterIn k bs)
+unfolding laterIn
+later-faulty zero [] = refl
+later-faulty (suc k) [] = refl
+later-faulty zero (b ∷ bs) = need-faulty (leb b 15) _ (need-faulty (not (eqb b 0)) _ tt)
+later-faulty (suc k) (b ∷ bs) = cond-faulty (ltb b 128) _ _ (need-faulty (not (eqb b 0)) _ tt) (bind-faulty (laterIn k bs) _ (later-faulty k bs) (λ t. tt))
+
+number-faulty : (bs : List ℕ) → Faulty (vbyteIn bs)
+unfolding vbyteIn
+number-faulty [] = refl
+number-faulty (b ∷ bs) = cond-faulty (ltb b 128) _ _ tt (bind-faulty (laterIn 3 bs) _ (later-faulty 3 bs) (λ t. tt))
+
+faulty : (body : List ℕ) (left : ℕ) (p : Position) → Faulty (unitVByte body left p)
+unfolding unitVByte
+faulty body left p = bind-faulty (vbyteIn (drop (p .head .byte) body)) _ (number-faulty (drop (p .head .byte) body)) (λ t. tt)
 
 -- ---- whole bodies: the body holds xs from an offset on, and no more
 record Holds (body : List ℕ) (at : ℕ) (xs : List ℕ) : Type 0 where
@@ -62,12 +80,14 @@ ended body at e =
     record { inside = omega arith; bytes = drop-of-length-le body {i = at} (omega arith); small = below-nil numberLimit (omega arith) }
 
 heads : (body before : List ℕ) (p : Position) (x : ℕ) (xs : List ℕ) → HoldsAt body before p (x ∷ xs)
-    → (u : Position × List ℕ) × (unitVByte body (suc (length xs)) p ≡ given u) × (always before (u .1) ≡ true) × ((zs : List ℕ) × (u .1 ++ zs ≡ x ∷ xs) × HoldsAt body (u .1) (u .0) zs)
+    → (u : Position × List ℕ) × (unitVByte body (suc (length xs)) p ≡ given u) × (always before (u .1) ≡ true)
+    × ((zs : List ℕ) × (u .1 ++ zs ≡ x ∷ xs) × HoldsAt body (u .1) (u .0) zs)
 unfolding unitVByte joined
 heads body before p x xs h =
     let at = p .head .byte in
     let n = length (vbyte x) in
-    let l : n + length (joined vbyte xs) ≡ length body - at = sym (length-append (vbyte x) (joined vbyte xs)) ∙ sym (ap length (h .bytes)) ∙ length-drop at body in (
+    let l : n + length (joined vbyte xs) ≡ length body - at =
+    sym (length-append (vbyte x) (joined vbyte xs)) ∙ sym (ap length (h .bytes)) ∙ length-drop at body in (
       (atByte (at + n), x ∷ []),
       rw (h .bytes, number-vbyte x (joined vbyte xs) (h .small 0)),
       refl,
@@ -137,4 +157,16 @@ back body n xs b e =
     }
 
 pub lawful : Lawful codeVByte
-lawful = record { good = λ body b. good body; forth = forth; back = back; most = λ xs h. most xs; bytes = bytes }
+lawful =
+    record {
+      good = λ body b. good body;
+      begins = λ body n. tt;
+      faulty = faulty;
+      fresh = spare-always [];
+      forth = forth;
+      back = back;
+      most = λ xs h. most xs;
+      bytes = bytes;
+      grows = λ k n h. omega arith;
+      nine = λ n. omega arith;
+    }

@@ -3,4 +3,4 @@ pub mod Sevens
 pub mod Laws
 pub mod Steps
 pub mod Puts
-pub mod Turns
+pub mod Takes

@@ -56,8 +56,8 @@ module _ (s : List ℕ) (at : ℕ) where
   later-none k scale low h = rw (drop-of-length-le s {i = at} h)
 
   -- the byte b stands at the offset
-  module _ (inside : at < length s) (b : ℕ) (is : b ≡ getD s at 0) (next : ℕ) (after : next ≡ at + 1) where
-    byte-at : drop at s ≡ b ∷ drop next s
+  module _ (inside : at < length s) {b : ℕ} (is : b ≡ getD s at 0) {next : ℕ} (after : next ≡ at + 1) where
+    pub byte-at : drop at s ≡ b ∷ drop next s
     byte-at = drop-cons s at 0 inside ∙ rw (is, after, add-one at)
 
     pub number-one : b < 128 → given (b, next) ≡ numberAt s at
@@ -99,8 +99,8 @@ module _ (body : List ℕ) (left : ℕ) (p : Position) (r : Number) (told : numb
   unfolding unitVByte numberAt
   unit-told = rw told (unit-is (vbyteIn (drop (p .head .byte) body)) (p .head .byte))
 
-  pub unit-given : (x next : ℕ) → r ≡ number.Read x next → unitVByte body left p ≡ given (atByte next, x ∷ [])
-  unit-given x next e = rw e at unit-told
+  pub unit-given : {x next : ℕ} → r ≡ number.Read x next → unitVByte body left p ≡ given (atByte next, x ∷ [])
+  unit-given e = rw e at unit-told
 
-  pub unit-refused : (z : ℕ) → r ≡ number.Refused z → unitVByte body left p ≡ refused z
-  unit-refused z e = rw e at unit-told
+  pub unit-refused : {z : ℕ} → r ≡ number.Refused z → unitVByte body left p ≡ refused z
+  unit-refused e = rw e at unit-told

@@ -1,11 +1,14 @@
 // Code 1, VByte: 7 bits a byte, lowest first, top bit 1 when more follows.
+use leaves::lesser;
 use leaves::put;
+use leaves::taken;
 use leaves::wide;
 use meaning::Bit;
+use meaning::FAULT;
 use meaning::Offset;
 use meaning::Place;
 use meaning::Position;
-use meaning::Reading;
+use meaning::Taken;
 use meaning::Unit;
 use meaning::UnitRead;
 ghost use mathlib.Core.Bool.{not};
@@ -14,14 +17,12 @@ ghost use Prim.Native.Nat.{_+_, _^_, _≤_, _<_};
 ghost use lib.Dec.{eqb};
 ghost use lib.ListN.{length};
 ghost use Rattle.meaning.specs.Answer.{given, need};
-ghost use Rattle.meaning.specs.Codes.{codeVByte, readCode};
+ghost use Rattle.meaning.specs.Codes.{codeVByte};
 ghost use Rattle.meaning.specs.Limits.{mostBytes, fault};
-ghost use Rattle.meaning.specs.Places.{Source, Target, Wrote, Got, UnitIs, part};
+ghost use Rattle.meaning.specs.Places.{Source, Target, Wrote, Took, UnitIs, part};
+ghost use Rattle.meaning.specs.Positions.{atByte};
 ghost use Rattle.meaning.specs.VByte.{sevens, vbyte};
-ghost use Rattle.vbyte.specs.Numbers.{numberSays, numberAt, laterAt};
-
-// Fault in a body.
-const FAULT: u8 = 9;
+ghost use Rattle.vbyte.specs.Numbers.{numberSays, numberAt, laterAt, Ones};
 
 // One number read: its value and the offset after it, or the refusal.
 enum Number {
@@ -156,6 +157,17 @@ fn number_at(body: &[u8], at: usize) -> Number
     from_second(body, next, first - 128)
 }
 
+// A position that is an offset alone.
+fn from_byte(byte: usize) -> Position
+    ensures { λ r. ⌜ r ≡ atByte byte ⌝ }
+{
+    Position {
+        head: Offset { byte },
+        tail: Offset { byte: 0 },
+        bit: Bit { index: 0 },
+    }
+}
+
 // Reads the unit at a position: one number.
 pub fn unit(body: &[u8], left: usize, at: Position) -> UnitRead
     requires { ⌜ length (now body) ≤ mostBytes ⌝ }
@@ -167,11 +179,7 @@ pub fn unit(body: &[u8], left: usize, at: Position) -> UnitRead
     match r {
         Number::Read(x, next) => {
             numbers[0] = x;
-            let after = Position {
-                head: Offset { byte: next },
-                tail: Offset { byte: 0 },
-                bit: Bit { index: 0 },
-            };
+            let after = from_byte(next);
             UnitRead {
                 unit: Unit::Next(after, 1),
                 numbers,
@@ -184,27 +192,87 @@ pub fn unit(body: &[u8], left: usize, at: Position) -> UnitRead
     }
 }
 
-// Reads a whole body of n numbers into work, from a place on.
-pub fn read(body: &[u8], n: usize, work: &mut [u32], from: Place) -> Reading
-    requires { ⌜ Target (now body) (now work) (from .number) n ⌝ }
-    ensures { λ r. ⌜ Got (readCode codeVByte (now (body .entry)) n) (from .number) (now (work .entry)) (now (work .exit)) r ⌝ }
+// Takes four numbers of one byte each, where four such stand at an offset; answers how many it took, 4 or none.
+fn take_four(body: &[u8], at: Offset, work: &mut [u32], from: Place) -> usize
+    requires { ⌜ (at .byte + 4 ≤ length (now body)) × (from .number + 4 ≤ length (now work)) ⌝ }
+    ensures { λ r. ⌜ Ones (now (body .entry)) (at .byte) 4 (from .number) (now (work .entry)) (now (work .exit)) r ⌝ }
 {
+    let start = at.byte;
     let first = from.number;
-    let mut i: usize = 0;
-    let mut at: usize = 0;
-    while i < n {
-        let r = number_at(body, at);
-        match r {
-            Number::Read(x, next) => {
-                work[first + i] = x;
-                i += 1;
-                at = next;
-            }
-            Number::Refused(e) => return Reading::Refused(e),
+    let a = wide(body[start]);
+    let b = wide(body[start + 1]);
+    let c = wide(body[start + 2]);
+    let d = wide(body[start + 3]);
+    if 127 < a {
+        return 0;
+    }
+    if 127 < b {
+        return 0;
+    }
+    if 127 < c {
+        return 0;
+    }
+    if 127 < d {
+        return 0;
+    }
+    work[first] = a;
+    work[first + 1] = b;
+    work[first + 2] = c;
+    work[first + 3] = d;
+    4
+}
+
+// Takes numbers of one byte each from an offset on, four at a time and at most so many; answers how many it took.
+fn take_ones(body: &[u8], at: Offset, work: &mut [u32], from: Place, most: usize) -> usize
+    requires { ⌜ from .number + most ≤ length (now work) ⌝ }
+    ensures { λ r. ⌜ Ones (now (body .entry)) (at .byte) most (from .number) (now (work .entry)) (now (work .exit)) r ⌝ }
+{
+    let start = at.byte;
+    let first = from.number;
+    let end = body.len();
+    if end < start {
+        return 0;
+    }
+    let limit = lesser(most, end - start);
+    let mut n: usize = 0;
+    while n + 4 <= limit {
+        let byte = start + n;
+        let number = first + n;
+        let more = take_four(body, Offset { byte }, work, Place { number });
+        if more == 0 {
+            return n;
         }
+        n += more;
     }
-    if at == body.len() {
-        return Reading::Whole(n);
+    n
+}
+
+// Takes numbers from a position on into work, from a place on, and at most as many as there is room for: it stops at a fault and refuses nothing.
+// As long as numbers take one byte they are taken four at a time, and from the first that does not one by one.
+pub fn take(
+    body: &[u8],
+    left: usize,
+    at: Position,
+    work: &mut [u32],
+    from: Place,
+    room: usize,
+) -> Taken
+    requires { ⌜ Target (now body) (now work) (from .number) room ⌝ }
+    ensures { λ r. ⌜ Took codeVByte (now (body .entry)) left at room (from .number) (now (work .entry)) (now (work .exit)) r ⌝ }
+{
+    let head = at.head;
+    let first = from.number;
+    let most = lesser(left, room);
+    let mut i = take_ones(body, head, work, from, most);
+    let mut to = head.byte + i;
+    while i < most {
+        let r = number_at(body, to);
+        let Number::Read(x, next) = r else {
+            return taken(at, i, i, 0, from_byte(to));
+        };
+        work[first + i] = x;
+        i += 1;
+        to = next;
     }
-    Reading::Refused(FAULT)
+    taken(at, i, i, 0, from_byte(to))
 }

@@ -66,7 +66,7 @@ columns-most (l ∷ ls) fine =
       length-append (entryBytes l) (joined entryBytes ls),
       length-append (bodyOf l) (joined bodyOf ls),
       entry-long l (f .planned),
-      most (λ c i. laws c) (planOf (l .plan)) (l .numbers) (f .small) (f .few),
+      most laws (planOf (l .plan)) (l .numbers) (f .small) (f .few),
     )
 
 pub sheet-most : (ls : List Listed) → ((k : ℕ) → k < length ls → Fine (getD ls k blankListed)) → length (sheetBytes ls) ≤ worstSheet ls

@@ -4,9 +4,13 @@ use crate::orders::judge_orders;
 use crate::orders::largest_of;
 use crate::orders::lists_rise;
 use crate::orders::orders_hold;
-use crate::sheets::MOST_BYTES;
 use crate::sheets::put_sheet;
+use meaning::BAD_ORDERS;
+use meaning::FALLS;
 use meaning::Judged;
+use meaning::MOST_BYTES;
+use meaning::NO_ROOM;
+use meaning::SHORT_WORK;
 use meaning::Sized;
 ghost use mathlib.Core.Path.{_≡_};
 ghost use lib.ListN.{length};
@@ -17,18 +21,6 @@ ghost use Rattle.meaning.specs.Says.{sizedSays};
 mod orders;
 mod plans;
 mod sheets;
-
-// Refused: orders that do not hold.
-const BAD_ORDERS: u8 = 11;
-
-// Refused: a list of kind 1 that falls.
-const FALLS: u8 = 10;
-
-// Refused: a work slice that is too short.
-const SHORT_WORK: u8 = 8;
-
-// Refused: a sheet above 65,536 bytes, or an output shorter than it.
-const NO_ROOM: u8 = 7;
 
 // Writes a sheet at the start of an output, with work for 7 times the largest list. A refusal leaves the output as it was.
 pub fn write(

@@ -1,10 +1,11 @@
 // Orders: whether they hold, their plans judged in turn, whether their lists are of their kinds, and the largest count.
-use crate::plans::PLAN_BYTES;
 use crate::plans::used_plan;
 use judge::judge_plan;
-use judge::tree::RISING;
 use meaning::Judged;
+use meaning::MOST_COLUMNS;
+use meaning::PLAN_BYTES;
 use meaning::Place;
+use meaning::RISING;
 use stages::rises_in;
 ghost use mathlib.Core.Path.{_≡_};
 ghost use mathlib.Core.List.{List};
@@ -18,9 +19,6 @@ ghost use Rattle.meaning.specs.Places.{part};
 ghost use Rattle.meaning.specs.Says.{judgedSays};
 ghost use Rattle.meaning.specs.Sheet.{ofKind};
 ghost use Rattle.writer.specs.Orders.{columnsBy, orderHolds, listJudged, listRises, verdictTold, slicesHold};
-
-// A sheet's columns.
-const MOST_COLUMNS: usize = 16;
 
 // A list's numbers.
 const MOST_NUMBERS: u32 = 1024;

@@ -1,6 +1,7 @@
 // The plans of orders: 15 zeros mean the default.
-use judge::tree::RISING;
 use leaves::put;
+use meaning::PLAN_BYTES;
+use meaning::RISING;
 ghost use mathlib.Core.Path.{_≡_};
 ghost use Prim.Native.Nat.{_+_, _<_, _≤_, _^_};
 ghost use lib.Dec.{eqb};
@@ -10,9 +11,6 @@ ghost use Rattle.meaning.specs.Limits.{planBytes};
 ghost use Rattle.meaning.specs.Lists.{all};
 ghost use Rattle.meaning.specs.Places.{part};
 ghost use Rattle.meaning.specs.Plan.{defaultPlan, planUsed};
-
-// A plan's length.
-pub const PLAN_BYTES: usize = 15;
 
 // Bytes of a slice are put at an offset of an output, as far as they lie within it.
 pub fn put_bytes(bytes: &[u8], from: usize, n: usize, out: &mut [u8], at: usize)

@@ -1,11 +1,15 @@
 // A sheet laid down: its head, and for each column its body and its entry.
 use crate::orders::amount_of;
-use crate::plans::PLAN_BYTES;
 use crate::plans::put_bytes;
 use crate::plans::used_plan;
 use fields::put_word;
 use leaves::put;
+use meaning::EDITION;
+use meaning::ENTRY_SIZE;
+use meaning::HEAD_SIZE;
+use meaning::MOST_BYTES;
 use meaning::Offset;
+use meaning::PLAN_BYTES;
 use plan_write::write_list;
 ghost use mathlib.Core.Path.{_≡_};
 ghost use mathlib.Core.List.{_∷_, _++_};
@@ -19,18 +23,6 @@ ghost use Rattle.meaning.specs.Plan.{planOf};
 ghost use Rattle.meaning.specs.Sheet.{entrySize, sheetBytes};
 ghost use Rattle.meaning.specs.Stages.{write};
 ghost use Rattle.writer.specs.Orders.{columnsBy, Ordered, Laid};
-
-// A sheet's bytes.
-pub const MOST_BYTES: usize = 65536;
-
-// The edition.
-const EDITION: u8 = 1;
-
-// The edition and the number of columns stand before the entries.
-const HEAD_SIZE: usize = 2;
-
-// An entry: its kind, then its plan, its count and its body's length.
-const ENTRY_SIZE: usize = 24;
 
 // A length as a table's number.
 fn word_of(x: usize) -> u32

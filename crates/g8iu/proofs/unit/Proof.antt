@@ -1,78 +1,125 @@
--- `unit` tests the offset against the body's length, then takes the block there into the array. Assumes nothing.
-use Prim.Native.Nat.{_+_, _≤_}
-use mathlib.Core.Path.{refl}
+-- `unit` tests the offset and the control byte, then takes the block there into the array (`Standing`). Assumes nothing.
+use Prim.Native.Nat.{_+_}
+use mathlib.Core.Path.{sym, _∙_}
 use native.Mathlib.Omega.{arith}
 use lib.ListN.{length}
 use borrow.Author.Needs.{needs}
-use Rattle.g8iu.proofs.Readings.{unit-short, unit-refused, unit-taken, count-is, unit-few, unit-none, unit-next}
+use borrow.Author.Tests.{leb-true, not-true, not-false}
+use Rattle.g8iu.proofs.Standing.{Standing, unit-short, unit-barred, unit-refused, unit-asks, unit-fault, unit-next}
 use Rattle.g8iu.proofs.unit.Statement.{statement}
 use Rattle.g8iu.proofs.unit.Tie as tie
+
+start-of : tie.Else2 → tie.Start
+start-of c = search
+
+-- a block stands there and is allowed
+standing : (c : tie.Else2) → Standing (start-of c .args .body .now) (start-of c .args .left) (start-of c .args .at)
+unfolding start-of
+standing c =
+    let tried : tie.After-is-allowed = search in
+    let found : tie.Else1 = search in
+    let has : tie.After-has-block = search in
+    let known : tie.After-shared-slice-known = search in
+    record {
+      inside = leb-true _ _ (sym (has .has-block .ensures) ∙ not-false _ (found .if1 .left));
+      byte = known .shared-slice-known .given (start-of c .args .at .head .byte) .fits;
+      allows = sym (tried .is-allowed .ensures) ∙ not-false _ (c .if2 .left);
+    }
+
+has-block-requires : tie.Need-has-block-requires
+has-block-requires c κs = search needs
 
 refusal-requires : tie.Need-refusal-requires
 refusal-requires c κs = search needs
 
 returns : tie.Need-returns
 returns c =
-    let a = c .before .before .before .before .args in
-    unit-none (a .body .now) (a .left) (a .at) _ _ (unit-short (a .body .now) (a .left) (a .at) (omega arith)) (c .refusal .ensures)
+    let none : tie.Then1 = search in
+    let has : tie.After-has-block = search in
+    let start : tie.Start = search in
+    unit-refused _ (start .args .left) (start .args .at) (unit-short _ _ _ (sym (has .has-block .ensures) ∙ not-true _ (none .if1 .taken)))
+    (c .refusal .ensures)
+
+shared-slice-read-control : tie.Need-shared-slice-read-control
+shared-slice-read-control c =
+    let found : tie.Else1 = search in
+    let has : tie.After-has-block = search in
+    let start : tie.Start = search in
+    omega (arith, leb-true (start .args .at .head .byte + 9) (length (start .args .body .now)) (sym (has .has-block .ensures) ∙ not-false _ (found .if1 .left)))
+
+is-allowed-requires : tie.Need-is-allowed-requires
+is-allowed-requires c κs = search needs
 
 refusal-requires-2 : tie.Need-refusal-requires-2
 refusal-requires-2 c κs = search needs
 
 returns-2 : tie.Need-returns-2
 returns-2 c =
-    let a = c .before .before .before .before .before .args in
-    unit-none (a .body .now) (a .left) (a .at) _ _ (unit-short (a .body .now) (a .left) (a .at) (omega arith)) (c .refusal2 .ensures)
+    let bad : tie.Then2 = search in
+    let tried : tie.After-is-allowed = search in
+    let start : tie.Start = search in
+    unit-refused _ (start .args .left) (start .args .at) (unit-barred _ _ _ (sym (tried .is-allowed .ensures) ∙ not-true _ (bad .if2 .taken)))
+    (c .refusal2 .ensures)
 
-add-next : tie.Need-add-next
-add-next c = search needs
+wide-requires : tie.Need-wide-requires
+wide-requires c κs = search needs
 
-slice-aggregate-take-block : tie.Need-slice-aggregate-take-block
-slice-aggregate-take-block c = search needs
+sub-ends : tie.Need-sub-ends
+sub-ends c = search needs
 
-take-block-requires : tie.Need-take-block-requires
-take-block-requires c κs = search needs
+slice-aggregate-take-ends : tie.Need-slice-aggregate-take-ends
+slice-aggregate-take-ends c = search needs
 
-enum-known-r : tie.Need-enum-known-r
-enum-known-r c = search needs
-
-enum-known-r-2 : tie.Need-enum-known-r-2
-enum-known-r-2 c = search needs
+take-ends-requires : tie.Need-take-ends-requires
+unfolding start-of
+take-ends-requires c κs =
+    let ends : tie.After-wide = search in
+    let good : tie.Else2 = search in
+    unit-asks (standing good) (rw (ends .wide .ensures .0))
 
 refusal-requires-3 : tie.Need-refusal-requires-3
 refusal-requires-3 c κs = search needs
 
 returns-3 : tie.Need-returns-3
+unfolding start-of
 returns-3 c =
-    let a = c .before .before .before .before .before .before .before .before .before .before .args in
-    let b = c .before .before .before .before .take-block in
-    let inside : a .at .head .byte + 9 ≤ length (a .body .now) = omega arith in
-    let q = c .before .r .given .1 in
-    let e = unit-taken (a .body .now) (a .left) (a .at) inside _ _ _ _ (b .ensures) _ _ q in
-    unit-next (a .body .now) (a .left) (a .at) (b .ensures .stored) _ _ _ refl
-    (unit-few (a .body .now) (a .left) (a .at) _ (c .before .before .before .before .before .before .before .before .before .shared-slice-known .given (a .at .head .byte) .fits) e)
-    (count-is (a .body .now) (a .left) (a .at) inside _ _ _ _ (b .ensures) _ _ q) (b .ensures .here) e
+    let none : tie.Then3 = search in
+    let stored : tie.After-take-ends = search in
+    let good : tie.Else2 = search in
+    unit-refused _ _ _ (unit-fault (standing good) (stored .take-ends .ensures) (none .if3 .taken)) (c .refusal3 .ensures)
+
+add-from-byte : tie.Need-add-from-byte
+unfolding start-of
+add-from-byte c = let good : tie.Else2 = search in omega (arith, standing good .inside)
+
+from-byte-requires : tie.Need-from-byte-requires
+from-byte-requires c κs = search needs
 
 returns-4 : tie.Need-returns-4
+unfolding start-of
 returns-4 c =
-    let a = c .before .before .before .before .before .before .before .before .before .before .before .args in
-    let b = c .before .before .before .before .before .take-block in
-    let inside : a .at .head .byte + 9 ≤ length (a .body .now) = omega arith in
-    unit-none (a .body .now) (a .left) (a .at) _ _ (unit-refused (a .body .now) (a .left) (a .at) inside _ _ _ _ (b .ensures) _ (c .before .before .r2 .given .1)) (c .refusal3 .ensures)
+    let some : tie.Else3 = search in
+    let stored : tie.After-take-ends = search in
+    let good : tie.Else2 = search in
+    rw (c .from-byte .ensures) (unit-next (standing good) (stored .take-ends .ensures) (some .if3 .left))
 
 pub unit-spec : {M : Type 1} → statement M
 unit-spec =
     tie.close
     (tie.spec
+    has-block-requires
     refusal-requires
     returns
+    shared-slice-read-control
+    is-allowed-requires
     refusal-requires-2
     returns-2
-    add-next
-    slice-aggregate-take-block
-    take-block-requires
-    enum-known-r
-    enum-known-r-2
+    wide-requires
+    sub-ends
+    slice-aggregate-take-ends
+    take-ends-requires
     refusal-requires-3
     returns-3
+    add-from-byte
+    from-byte-requires
     returns-4)

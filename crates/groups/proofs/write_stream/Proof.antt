@@ -11,8 +11,11 @@ put-controls-requires c κs = search needs
 
 put-fields-requires : tie.Need-put-fields-requires
 put-fields-requires c κs =
-    let a = c .before .before .before .before .before .before .before .args in
-    (c .before .before .before .before .before .before .before .pre .inside, omega (arith, c .before .before .before .put-controls .ensures .ends, controls-bound (a .list .now) (a .from .number) (a .n) (c .before .before .before .before .before .before .before .pre .inside), c .before .before .before .before .before .before .before .pre .short))
+    let controls : tie.After-put-controls = search in
+    let start : tie.Start = search in
+    let a = start .args in
+    let bound = controls-bound (a .list .now) (a .from .number) (a .n) (start .pre .inside) in
+    (start .pre .inside, omega (arith, controls .put-controls .ensures, start .pre .short))
 
 same-length : tie.Need-same-length
 same-length c = search needs
@@ -20,9 +23,9 @@ same-length c = search needs
 returns : tie.Need-returns
 unfolding writeStream
 returns c =
-    let a = c .before .before .before .before .before .before .before .before .before .before .args in
-    put-after _ _ (a .at .byte) (c .before .before .before .before .before .before .put-controls .result) (c .before .before .put-fields .result) (a .out .now) _ _ (c .before .before .before .before .before .before .put-controls .ensures) (c .before .before .put-fields .ensures)
+    let fields : tie.After-put-fields = search in
+    let controls : tie.After-put-controls = search in
+    put-after (controls .put-controls .ensures) (fields .put-fields .ensures)
 
 pub write-stream-spec : {M : Type 1} → statement M
-write-stream-spec =
-    tie.close (tie.spec put-controls-requires put-fields-requires same-length returns)
+write-stream-spec = tie.close (tie.spec put-controls-requires put-fields-requires same-length returns)

@@ -4,9 +4,11 @@ use mathlib.Core.Path.{_≡_, refl, sym, ap, _∙_}
 use lib.ListN.{length}
 use Prim.Native.Nat.{_+_, _-_, _*_, _≤_}
 use Rattle.judge.proofs.PlanLaws.{at-bad, at-code, at-reference, at-differences, at-runs}
-use Rattle.stages.proofs.Most.{cap}
+use Rattle.stages.specs.Room.{cap}
+use Rattle.stages.proofs.Most.{cap-least}
+use Rattle.stages.proofs.Rooms.{room-least}
 use Rattle.codes.proofs.Numbered.{laws}
-use Rattle.plan_write.proofs.Steps.{room-least, cap-code, runs-fit, values-end, fit-reference, fit-differences, fit-runs, fit-one-more, fit-values, fit-lengths, fit-three, written-bad, written-code, written-differences, written-reference, written-runs, written-stage, written-second}
+use Rattle.plan_write.proofs.Steps.{runs-fit, values-end, fit-reference, fit-differences, fit-runs, fit-one-more, fit-values, fit-lengths, fit-three, written-bad, written-code, written-differences, written-reference, written-runs, written-stage, written-second}
 use Prim.Native.Nat.{ℕ, _<_}
 use borrow.Fn.Kinds.{In}
 use borrow.Fn.PlainCycle.{Measures, is, falls, and}
@@ -70,7 +72,7 @@ write-plan-enum-known-code t c = search needs
 write-plan-write-code-requires : (t : ℕ) → write-plan-lts.Need-write-code-requires (write-plan-claims t) (write-plan-at t) write-plan.Post
 write-plan-write-code-requires t c κs =
     let s = c .before .before .before .before .before .before .before .before .before in
-    record { inside = omega (arith, s .pre .1 .within, room-least (s .args .stages) (s .args .n)); short = omega (arith, s .pre .1 .below, cap-code (s .args .stages) (s .args .n)) }
+    record { inside = omega (arith, s .pre .1 .within, room-least (s .args .stages) (s .args .n)); short = omega (arith, s .pre .1 .below, cap-least (s .args .stages) (s .args .n)) }
 
 write-plan-enum-known-next : (t : ℕ) → write-plan-lts.Need-enum-known-next (write-plan-claims t) (write-plan-at t) write-plan.Post
 write-plan-enum-known-next t c = search needs

@@ -1,7 +1,7 @@
--- `fill`: what is still to be stored, stored from here, is the whole. Assumes nothing.
+-- `fill`: the first of them are stored. Assumes nothing.
 use Prim.Native.Nat.{_-_}
-use borrow.Author.Needs.{needs}
 use Rattle.stages.proofs.Unrolls.{Filling, filling-start, filling-turn, filling-end}
+use borrow.Author.Needs.{needs}
 use Rattle.stages.proofs.fill.Statement.{statement}
 use Rattle.stages.proofs.fill.Tie as tie
 
@@ -13,36 +13,20 @@ abbrev μ-loop : tie.MeasureT-loop
 μ-loop work₀ n v first i₀ work i =
     n - i
 
+abbrev At : (tie.InvT-loop → tie.MeasureT-loop → Type 0) → Type 0
+At point = point Inv-loop μ-loop
+
 loop-holds : tie.Need-loop-holds Inv-loop μ-loop
-loop-holds c =
-    filling-start (c .args .work .now) (c .args .from .number) (c .args .n) (c .args .v)
-
-add-work : tie.Need-add-work Inv-loop μ-loop
-add-work c = search needs
-
-mul-work : tie.Need-mul-work Inv-loop μ-loop
-mul-work c = search needs
-
-slice-write-work : tie.Need-slice-write-work Inv-loop μ-loop
-slice-write-work c = search needs
-
-add-i : tie.Need-add-i Inv-loop μ-loop
-add-i c = search needs
-
-loop-less : tie.Need-loop-less Inv-loop μ-loop
-loop-less c = search needs
+loop-holds c = filling-start
 
 loop-again : tie.Need-loop-again Inv-loop μ-loop
 loop-again c =
-    let s = c .before .before in filling-turn (s .args .work .now) (s .args .from .number) (s .args .n) (s .args .v) _ _ (c .before .loop .inv) (c .loop-test .taken)
-
-same-length : tie.Need-same-length Inv-loop μ-loop
-same-length c =
-    c .before .loop .inv .long
+    let turn : At tie.In-loop = search in
+    filling-turn (turn .before .loop .inv) (turn .loop-test .taken)
 
 returns : tie.Need-returns Inv-loop μ-loop
 returns c =
-    let s = c .before .before in filling-end (s .args .work .now) (s .args .from .number) (s .args .n) (s .args .v) _ _ (c .before .loop .inv) (c .loop-test .left)
+    filling-end (c .before .loop .inv) (c .loop-test .left)
 
 pub fill-spec : {M : Type 1} → statement M
 fill-spec =
@@ -51,11 +35,11 @@ fill-spec =
     Inv-loop
     μ-loop
     loop-holds
-    add-work
-    mul-work
-    slice-write-work
-    add-i
-    loop-less
+    (λ c. search needs)  -- add-work
+    (λ c. search needs)  -- mul-work
+    (λ c. search needs)  -- slice-write-work
+    (λ c. search needs)  -- add-i
+    (λ c. search needs)  -- loop-less
     loop-again
-    same-length
+    (λ c. search needs)  -- same-length
     returns)

@@ -1,8 +1,8 @@
--- `less_into`: what is still to be stored, stored from here, is the whole. Assumes nothing.
+-- `less_into`: the first numbers are stored, and what is still to come is what is made of the numbers from here. Assumes nothing.
 use Prim.Native.Nat.{_+_, _-_}
 use native.Mathlib.Omega.{arith}
+use Rattle.stages.proofs.Scans.{lessBy, less-scan, Scanning, scanning-start, behind-turn, scanning-end}
 use borrow.Author.Needs.{needs}
-use Rattle.stages.proofs.Scans.{lessBy, less-scan, Scanning, behind, scanning-start, scanning-turn, scanning-end}
 use Rattle.stages.proofs.less_into.Statement.{statement}
 use Rattle.stages.proofs.less_into.Tie as tie
 
@@ -14,51 +14,23 @@ abbrev μ-loop : tie.MeasureT-loop
 μ-loop work₀ n m first i₀ work i =
     n - i
 
+abbrev At : (tie.InvT-loop → tie.MeasureT-loop → Type 0) → Type 0
+At point = point Inv-loop μ-loop
+
 loop-holds : tie.Need-loop-holds Inv-loop μ-loop
 loop-holds c =
-    let s = c .before in scanning-start lessBy (s .args .work .now) (s .args .from .number + s .args .n) (s .args .from .number) (s .args .n) (s .args .m)
-
-add-x : tie.Need-add-x Inv-loop μ-loop
-add-x c = search needs
-
-mul-x : tie.Need-mul-x Inv-loop μ-loop
-mul-x c = search needs
-
-slice-read-x : tie.Need-slice-read-x Inv-loop μ-loop
-slice-read-x c = search needs
-
-less-requires : tie.Need-less-requires Inv-loop μ-loop
-less-requires c κs = search needs
-
-add-work : tie.Need-add-work Inv-loop μ-loop
-add-work c = search needs
-
-add-work-2 : tie.Need-add-work-2 Inv-loop μ-loop
-add-work-2 c = search needs
-
-mul-work : tie.Need-mul-work Inv-loop μ-loop
-mul-work c = search needs
-
-slice-write-work : tie.Need-slice-write-work Inv-loop μ-loop
-slice-write-work c = search needs
-
-add-i : tie.Need-add-i Inv-loop μ-loop
-add-i c = search needs
-
-loop-less : tie.Need-loop-less Inv-loop μ-loop
-loop-less c = search needs
+    let start : At tie.Start = search in
+    scanning-start less-scan (omega (arith, start .pre))
 
 loop-again : tie.Need-loop-again Inv-loop μ-loop
 loop-again c =
-    let s = c .before .before .before .before .before in scanning-turn lessBy (s .args .work .now) (s .args .from .number + s .args .n) (s .args .from .number) (s .args .n) (s .args .m) _ _ less-scan (omega arith) _ _ _ (c .before .before .before .loop .inv) (behind (s .args .from .number) (s .args .n)) _ (c .before .before .loop-test .taken) (c .less .ensures)
-
-same-length : tie.Need-same-length Inv-loop μ-loop
-same-length c =
-    c .before .loop .inv .long
+    let made : At tie.After-less = search in
+    let turn : At tie.In-loop = search in
+    behind-turn less-scan (turn .before .loop .inv) (turn .loop-test .taken) (made .less .ensures)
 
 returns : tie.Need-returns Inv-loop μ-loop
 returns c =
-    let s = c .before .before .before in scanning-end lessBy (s .args .work .now) (s .args .from .number + s .args .n) (s .args .from .number) (s .args .n) (s .args .m) _ _ less-scan (omega arith) _ _ _ (c .before .loop .inv) (c .loop-test .left)
+    scanning-end less-scan (c .before .loop .inv) (c .loop-test .left)
 
 pub less-into-spec : {M : Type 1} → statement M
 less-into-spec =
@@ -67,16 +39,16 @@ less-into-spec =
     Inv-loop
     μ-loop
     loop-holds
-    add-x
-    mul-x
-    slice-read-x
-    less-requires
-    add-work
-    add-work-2
-    mul-work
-    slice-write-work
-    add-i
-    loop-less
+    (λ c. search needs)  -- add-x
+    (λ c. search needs)  -- mul-x
+    (λ c. search needs)  -- slice-read-x
+    (λ c κs. search needs)  -- less-requires
+    (λ c. search needs)  -- add-work
+    (λ c. search needs)  -- add-work-2
+    (λ c. search needs)  -- mul-work
+    (λ c. search needs)  -- slice-write-work
+    (λ c. search needs)  -- add-i
+    (λ c. search needs)  -- loop-less
     loop-again
-    same-length
+    (λ c. search needs)  -- same-length
     returns)

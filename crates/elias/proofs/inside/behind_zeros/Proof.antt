@@ -1,7 +1,6 @@
 -- `behind_zeros` meets its contract, by one look or two. Assumes nothing.
-use native.Mathlib.Omega.{arith}
-use Rattle.elias.proofs.Looks.{behind-seen, behind-looked}
 use borrow.Author.Needs.{needs}
+use Rattle.elias.proofs.Looks.{behind-seen, behind-looked}
 use Rattle.elias.proofs.inside.behind_zeros.Statement.{statement}
 use Rattle.elias.proofs.inside.behind_zeros.Tie as tie
 
@@ -15,12 +14,10 @@ top-requires : tie.Need-top-requires
 top-requires c κs = search needs
 
 returns : tie.Need-returns
-returns c =
-    let a = c .before .before .before .args in
-    behind-seen (a .body .now) (a .p) (a .seen) (a .z) (c .before .before .before .pre) (c .top .result) (c .before .before .before .fits .seen .fits) (c .before .if1 .taken) (c .top .ensures)
+returns c = let start : tie.Start = search in behind-seen (start .pre) (c .before .if1 .taken) (c .top .ensures)
 
 add-peek-inside : tie.Need-add-peek-inside
-add-peek-inside c = omega (arith, c .before .before .pre .far, c .before .before .pre .few, c .before .before .pre .short)
+add-peek-inside c = search needs
 
 peek-inside-requires : tie.Need-peek-inside-requires
 peek-inside-requires c κs = search needs
@@ -33,19 +30,9 @@ top-requires-2 c κs = search needs
 
 returns-2 : tie.Need-returns-2
 returns-2 c =
-    let a = c .before .before .before .before .args in
-    behind-looked (a .body .now) (a .p) (a .seen) (a .z) (c .before .before .before .before .pre) (c .top2 .result) (c .before .peek-inside .result) (c .before .peek-inside .ensures) (c .top2 .ensures)
+    let looked : tie.After-peek-inside = search in
+    let start : tie.Start = search in
+    behind-looked (start .pre) (looked .peek-inside .result) (looked .peek-inside .ensures) (c .top2 .ensures)
 
 pub behind-zeros-spec : {M : Type 1} → statement M
-behind-zeros-spec =
-    tie.close
-    (tie.spec
-    mul-top
-    add-top
-    top-requires
-    returns
-    add-peek-inside
-    peek-inside-requires
-    add-top-2
-    top-requires-2
-    returns-2)
+behind-zeros-spec = tie.close (tie.spec mul-top add-top top-requires returns add-peek-inside peek-inside-requires add-top-2 top-requires-2 returns-2)

@@ -17,6 +17,9 @@ use borrow.Author.Needs.{needs}
 use Rattle.elias.proofs.word.delta_at.Statement.{statement}
 use Rattle.elias.proofs.word.delta_at.Tie as tie
 
+abbrev start-of : tie.After-first → tie.Start
+start-of c = c .before .before .before .before
+
 -- the length that was read in gamma, and how many bits it takes
 abbrev long : (c : tie.After-first) → ℕ
 long c = c .first .given .0 .0
@@ -26,29 +29,25 @@ size c = c .first .given .0 .1 .0
 
 -- the bits at p
 abbrev bits : (c : tie.After-first) → List ℕ
-bits c = drop (c .before .before .before .before .args .p) (bitsOf (c .before .before .before .before .args .body .now))
+bits c = drop (start-of c .args .p) (bitsOf (start-of c .args .body .now))
 
 first : (c : tie.After-first) → gammaIn 5 33 (bits c) ≡ given (long c, size c)
 first c = sym (c .before .before .gamma-in .ensures) ∙ ap wordSays (c .first .given .1)
 
-record Bounds (long size left : ℕ) : Type 0 where
+-- and how many are left behind it
+record Bounds (long size left behind : ℕ) : Type 0 where
   pub some : 0 < long
   pub few : long ≤ 33
   pub within : size ≤ left
+  pub rest : behind ≡ left - size
 
-bounds : (c : tie.After-first) → Bounds (long c) (size c) (8 * length (c .before .before .before .before .args .body .now) - c .before .before .before .before .args .p)
+bounds : (c : tie.After-first)
+    → Bounds (long c) (size c) (8 * length (start-of c .args .body .now) - start-of c .args .p) (length (drop (size c) (bits c)))
 bounds c =
-    let s = c .before .before .before .before .args .body .now in
-    let p = c .before .before .before .before .args .p in
-    let b = gamma-back 5 33 (bits c) (long c, size c) (omega arith) (below-drop 2 p (bitsOf s) (bits-below s)) (first c) in
-    record { some = b .some; few = b .few; within = omega (arith, b .within, bits-left p s) }
-
--- how many bits are left behind it
-left : (c : tie.After-first) → length (drop (size c) (bits c)) ≡ 8 * length (c .before .before .before .before .args .body .now) - c .before .before .before .before .args .p - size c
-left c =
-    let s = c .before .before .before .before .args .body .now in
-    let p = c .before .before .before .before .args .p in
-    omega (arith, length-drop (size c) (bits c), bits-left p s)
+    let a = start-of c .args in
+    let b = gamma-back 5 33 (bits c) (long c, size c) (omega arith) (below-drop 2 (a .p) (bitsOf (a .body .now)) (bits-below (a .body .now))) (first c) in
+    let left = bits-left (a .p) (a .body .now) in
+    record { some = b .some; few = b .few; within = omega (arith, b .within); rest = omega (arith, length-drop (size c) (bits c)) }
 
 gamma-in-requires : tie.Need-gamma-in-requires
 gamma-in-requires c κs = search needs
@@ -61,13 +60,13 @@ enum-told c = search needs
 
 returns : tie.Need-returns
 returns c =
-    let a = c .before .before .before .before .args in
-    let z : ℕ = c .enum-told .given .0 .0 in
+    let read : tie.After-gamma-in = search in
+    let start : tie.Start = search in
     let told = ap wordSays (c .enum-told .given .1) in
-    told ∙ delta-refused (drop (a .p) (bitsOf (a .body .now))) z (sym (c .before .before .gamma-in .ensures) ∙ told)
+    told ∙ delta-refused (drop (start .args .p) (bitsOf (start .args .body .now))) _ (sym (read .gamma-in .ensures) ∙ told)
 
 sub-n : tie.Need-sub-n
-sub-n c = omega (arith, bounds (c .before) .some)
+sub-n c = omega (arith, bounds (c .before))
 
 mul-left : tie.Need-mul-left
 mul-left c = search needs
@@ -79,27 +78,34 @@ sub-if1 : tie.Need-sub-if1
 sub-if1 c = bounds (c .before) .within
 
 returns-2 : tie.Need-returns-2
-returns-2 c =
-    delta-short (bits (c .before .before)) (long (c .before .before)) (size (c .before .before)) (first (c .before .before)) (omega (arith, c .if1 .taken, left (c .before .before)))
+returns-2 c = let read : tie.After-first = search in delta-short (bits read) (long read) (size read) (first read) (omega (arith, bounds read .rest))
 
 shl-within : tie.Need-shl-within
-shl-within c = omega (arith, bounds (c .before .before) .few)
+shl-within c = let read : tie.After-first = search in omega (arith, bounds read .few)
 
 add-take-bits : tie.Need-add-take-bits
-add-take-bits c = omega (arith, bounds (c .before .before) .within, c .before .before .before .before .before .before .pre)
+add-take-bits c =
+    let read : tie.After-first = search in
+    let start : tie.Start = search in
+    omega (arith, bounds read .within, start .pre)
 
 take-bits-requires : tie.Need-take-bits-requires
 take-bits-requires c κs =
-    (c .before .before .before .before .before .before .pre .0, omega (arith, bounds (c .before .before) .within, c .before .before .before .before .before .before .pre, c .if1 .left), omega (arith, bounds (c .before .before) .few))
+    let read : tie.After-first = search in
+    let start : tie.Start = search in
+    (start .pre .0, omega (arith, bounds read .within, start .pre, c .if1 .left), omega (arith, bounds read .few))
 
 add-within : tie.Need-add-within
 add-within c =
-    let s = c .before .before .before .before .before .before .before .args .body .now in
-    let p = c .before .before .before .before .before .before .before .args .p in
-    let q : ℕ = size (c .before .before .before) in
+    let enough : tie.Else1 = search in
+    let read : tie.After-first = search in
+    let start : tie.Start = search in
+    let a = start .args in
+    let s = a .body .now in
+    let q : ℕ = a .p + size read in
     record {
-      fits = one-before-fits (long (c .before .before .before) - 1) (c .take-bits .result) (drop (p + q) (bitsOf s)) (omega (arith, bounds (c .before .before .before) .few))
-          (omega (arith, c .before .if1 .left, bits-left (p + q) s, bounds (c .before .before .before) .within)) (c .take-bits .ensures) (below-drop 2 (p + q) (bitsOf s) (bits-below s));
+      fits = one-before-fits (long read - 1) (c .take-bits .result) (drop q (bitsOf s)) (omega (arith, bounds read .few))
+          (omega (arith, enough .if1 .left, bits-left q s, bounds read .within)) (c .take-bits .ensures) (below-drop 2 q (bitsOf s) (bits-below s));
     }
 
 add-within-2 : tie.Need-add-within-2
@@ -110,13 +116,15 @@ within-requires c κs = search needs
 
 returns-3 : tie.Need-returns-3
 returns-3 c =
-    let d = c .before .before .before .before in
-    let s = c .before .before .before .before .before .before .before .before .args .body .now in
-    let p = c .before .before .before .before .before .before .before .before .args .p in
-    let there : long d - 1 ≤ length (drop (size d) (bits d)) = omega (arith, c .before .before .if1 .left, left d) in
-    c .within .ensures ∙ delta-value (bits d) (long d) (size d) (first d) _ there
-    (one-before (long d - 1) (c .before .take-bits .result) (drop (size d) (bits d)) (omega (arith, bounds d .few)) there
-    (c .before .take-bits .ensures ∙ ap (λ (l : List ℕ). numberHigh 0 (take (long d - 1) l)) (sym (drop-drop (size d) p (bitsOf s)))))
+    let rest : tie.After-take-bits = search in
+    let enough : tie.Else1 = search in
+    let read : tie.After-first = search in
+    let start : tie.Start = search in
+    let n : ℕ = long read - 1 in
+    let there : n ≤ length (drop (size read) (bits read)) = omega (arith, enough .if1 .left, bounds read .rest) in
+    c .within .ensures ∙ delta-value (bits read) (long read) (size read) (first read) _ there
+    (one-before n (rest .take-bits .result) (drop (size read) (bits read)) (omega (arith, bounds read .few)) there
+    (rest .take-bits .ensures ∙ ap (λ (l : List ℕ). numberHigh 0 (take n l)) (sym (drop-drop (size read) (start .args .p) (bitsOf (start .args .body .now))))))
 
 pub delta-at-spec : {M : Type 1} → statement M
 delta-at-spec =

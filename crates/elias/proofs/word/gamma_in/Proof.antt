@@ -1,6 +1,7 @@
 -- `gamma_in` meets its contract: the zeros that are seen are the list's where they matter. Assumes nothing.
+use Prim.Native.Nat.{ℕ, _+_, _*_, _≤_}
+use mathlib.Core.List.{List}
 use mathlib.Core.Path.{_∙_}
-use Prim.Native.Nat.{_+_, _*_, _^_, _≤_, _<_}
 use native.Mathlib.Omega.{arith}
 use lib.Count.{leadingZeros, leading-le}
 use lib.ListN.{length, drop}
@@ -11,6 +12,21 @@ use borrow.Author.Needs.{needs}
 use Rattle.elias.proofs.word.gamma_in.Statement.{statement}
 use Rattle.elias.proofs.word.gamma_in.Tie as tie
 
+-- the bits at p
+abbrev bits : tie.Start → List ℕ
+bits c = drop (c .args .p) (bitsOf (c .args .body .now))
+
+start-of : tie.Else2 → tie.Start
+start-of c = search
+
+looked-of : tie.Else2 → tie.After-peek
+looked-of c = search
+
+-- the codeword is there
+there : (c : tie.Else2) → 2 * leadingZeros 64 (looked-of c .peek .result) + 1 ≤ length (bits (start-of c))
+unfolding start-of looked-of
+there c = let start : tie.Start = search in omega (arith, c .if2 .left, bits-left (start .args .p) (start .args .body .now))
+
 peek-requires : tie.Need-peek-requires
 peek-requires c κs = search needs
 
@@ -19,8 +35,10 @@ cast-z c = omega (arith, leading-le 64 (c .peek .result))
 
 returns : tie.Need-returns
 returns c =
-    let a = c .before .before .before .args in
-    seen-many (c .before .peek .result) (drop (a .p) (bitsOf (a .body .now))) (omega (arith, c .before .peek .ok)) (c .before .peek .ensures) (a .zeros) (a .most) (c .before .before .before .pre .2) (omega (arith, c .if1 .taken))
+    let looked : tie.After-peek = search in
+    let start : tie.Start = search in
+    let a = start .args in
+    seen-many (looked .peek .result) (bits start) (omega (arith, looked .peek .ok)) (looked .peek .ensures) (a .zeros) (a .most) (start .pre .2) (c .if1 .taken)
 
 mul-size : tie.Need-mul-size
 mul-size c = search needs
@@ -36,10 +54,12 @@ sub-left c = search needs
 
 returns-2 : tie.Need-returns-2
 returns-2 c =
-    let a = c .before .before .before .before .args in
-    let l = bitsOf (a .body .now) in
-    seen-short (c .before .before .peek .result) (drop (a .p) l) (omega (arith, c .before .before .peek .ok)) (c .before .before .peek .ensures) (a .zeros) (a .most) (c .before .before .before .before .pre .2) (c .before .if1 .left)
-    (omega (arith, c .if2 .taken, bits-left (a .p) (a .body .now)))
+    let few : tie.Else1 = search in
+    let looked : tie.After-peek = search in
+    let start : tie.Start = search in
+    let a = start .args in
+    seen-short (looked .peek .result) (bits start) (omega (arith, looked .peek .ok)) (looked .peek .ensures) (a .zeros) (a .most) (start .pre .2)
+    (few .if1 .left) (omega (arith, c .if2 .taken, bits-left (a .p) (a .body .now)))
 
 top-requires : tie.Need-top-requires
 top-requires c κs = search needs
@@ -48,15 +68,21 @@ within-requires : tie.Need-within-requires
 within-requires c κs = search needs
 
 returns-3 : tie.Need-returns-3
+unfolding start-of looked-of
 returns-3 c =
-    let a = c .before .before .before .before .before .before .before .args in
-    let l = bitsOf (a .body .now) in
-    let s = c .before .before .before .before .before .peek .result in
-    let fits : s < 2 ^ 64 = omega (arith, c .before .before .before .before .before .peek .ok) in
-    let seen = c .before .before .before .before .before .peek .ensures in
-    let long : 2 * leadingZeros 64 s + 1 ≤ length (drop (a .p) l) = omega (arith, c .before .before .before .if2 .left, bits-left (a .p) (a .body .now)) in
-    c .within .ensures ∙ seen-value s (drop (a .p) l) fits seen (a .zeros) (a .most) (c .before .before .before .before .before .before .before .pre .2) (c .before .before .before .before .if1 .left) (c .before .top .result) long
-    (seen-behind s (drop (a .p) l) fits seen (c .before .top .result) (c .before .before .if3 .taken) long (c .before .top .ensures))
+    let value : tie.After-top = search in
+    let seen : tie.Then3 = search in
+    let long : tie.Else2 = search in
+    let few : tie.Else1 = search in
+    let looked : tie.After-peek = search in
+    let start : tie.Start = search in
+    let a = start .args in
+    let s = looked .peek .result in
+    c .within .ensures
+    ∙ seen-value s (bits start) (omega (arith, looked .peek .ok)) (looked .peek .ensures) (a .zeros) (a .most) (start .pre .2) (few .if1 .left)
+    (value .top .result) (there long)
+    (seen-behind s (bits start) (omega (arith, looked .peek .ok)) (looked .peek .ensures) (value .top .result) (seen .if3 .taken) (there long)
+    (value .top .ensures))
 
 add-take-bits : tie.Need-add-take-bits
 add-take-bits c = search needs
@@ -71,13 +97,19 @@ within-requires-2 : tie.Need-within-requires-2
 within-requires-2 c κs = search needs
 
 returns-4 : tie.Need-returns-4
+unfolding start-of looked-of
 returns-4 c =
-    let a = c .before .before .before .before .before .before .before .args in
-    let l = bitsOf (a .body .now) in
-    let s = c .before .before .before .before .before .peek .result in
-    let long : 2 * leadingZeros 64 s + 1 ≤ length (drop (a .p) l) = omega (arith, c .before .before .before .if2 .left, bits-left (a .p) (a .body .now)) in
-    c .within2 .ensures ∙ seen-value s (drop (a .p) l) (omega (arith, c .before .before .before .before .before .peek .ok)) (c .before .before .before .before .before .peek .ensures) (a .zeros) (a .most) (c .before .before .before .before .before .before .before .pre .2) (c .before .before .before .before .if1 .left) (c .before .take-bits .result) long
-    (behind-further (c .before .take-bits .result) (a .p) (leadingZeros 64 s) l (c .before .take-bits .ensures))
+    let value : tie.After-take-bits = search in
+    let long : tie.Else2 = search in
+    let few : tie.Else1 = search in
+    let looked : tie.After-peek = search in
+    let start : tie.Start = search in
+    let a = start .args in
+    let s = looked .peek .result in
+    let v = value .take-bits .result in
+    c .within2 .ensures
+    ∙ seen-value s (bits start) (omega (arith, looked .peek .ok)) (looked .peek .ensures) (a .zeros) (a .most) (start .pre .2) (few .if1 .left) v (there long)
+    (behind-further v (a .p) (leadingZeros 64 s) (bitsOf (a .body .now)) (value .take-bits .ensures))
 
 pub gamma-in-spec : {M : Type 1} → statement M
 gamma-in-spec =

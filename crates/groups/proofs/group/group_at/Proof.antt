@@ -1,86 +1,173 @@
--- The definition's tests in their order. Assumes nothing.
-use mathlib.Core.Path.{_∙_, sym}
+-- Each field that is read is one turn (`Reads`). Assumes nothing.
+use Prim.Native.Nat.{_-_}
+use mathlib.Core.Path.{refl, sym, _∙_}
 use native.Mathlib.Omega.{arith}
-use Rattle.groups.proofs.Steps.{at-none, at-short, at-used, at-numbers}
+use Rattle.groups.specs.Layouts.{layoutOf}
+use Rattle.groups.proofs.Steps.{Reads, reads-none, reads-start, reads-cut, reads-long, reads-turn, reads-used, reads-end}
 use borrow.Author.Needs.{needs}
 use Rattle.groups.proofs.group.group_at.Statement.{statement}
 use Rattle.groups.proofs.group.group_at.Tie as tie
 
-faulty-requires : tie.Need-faulty-requires
+abbrev Inv-loop : tie.InvT-loop
+Inv-loop body left at data-at here count control₀ to₀ numbers₀ i₀ control to numbers i =
+    Reads (layoutOf data-at) body left at count i control to numbers
+
+abbrev μ-loop : tie.MeasureT-loop
+μ-loop body left at data-at here count control₀ to₀ numbers₀ i₀ control to numbers i =
+    count - i
+
+-- a point of the program: `let turn : At tie.In-loop = search in` finds, by its type, the one that c came by
+abbrev At : (tie.InvT-loop → tie.MeasureT-loop → Type 0) → Type 0
+At point = point Inv-loop μ-loop
+
+faulty-requires : tie.Need-faulty-requires Inv-loop μ-loop
 faulty-requires c κs = search needs
 
-returns : tie.Need-returns
+returns : tie.Need-returns Inv-loop μ-loop
 returns c =
-    let a = c .before .before .before .args in
-    record { told = c .faulty .ensures .told ∙ at-none (a .body .now) (a .left) (a .at .byte) (a .from .byte) (c .before .if1 .taken); few = c .faulty .ensures .few }
+    let start : At tie.Start = search in
+    let a = start .args in
+    reads-none (a .data-at) (a .body .now) (a .left) (a .at) (c .before .if1 .taken) (c .faulty .ensures)
 
-shared-slice-read-wide : tie.Need-shared-slice-read-wide
+lesser-requires : tie.Need-lesser-requires Inv-loop μ-loop
+lesser-requires c κs = search needs
+
+data-of-requires : tie.Need-data-of-requires Inv-loop μ-loop
+data-of-requires c κs = omega arith
+
+shared-slice-read-wide : tie.Need-shared-slice-read-wide Inv-loop μ-loop
 shared-slice-read-wide c = search needs
 
-wide-requires : tie.Need-wide-requires
+wide-requires : tie.Need-wide-requires Inv-loop μ-loop
 wide-requires c κs = search needs
 
-cast-c : tie.Need-cast-c
-cast-c c = search needs
+cast-control : tie.Need-cast-control Inv-loop μ-loop
+cast-control c = search needs
 
-at-most-four-requires : tie.Need-at-most-four-requires
-at-most-four-requires c κs = search needs
+loop-holds : tie.Need-loop-holds Inv-loop μ-loop
+loop-holds c =
+    let byte : At tie.After-wide = search in
+    let begins : At tie.After-data-of = search in
+    let most : At tie.After-lesser = search in
+    let start : At tie.Start = search in
+    let a = start .args in
+    reads-start (a .data-at) (a .body .now) (a .left) (a .at) (omega arith) (most .lesser .ensures) (byte .wide .ensures .0) (begins .data-of .ensures)
 
-bytes-from-requires : tie.Need-bytes-from-requires
+add-len : tie.Need-add-len Inv-loop μ-loop
+add-len c = omega arith
+
+bytes-from-requires : tie.Need-bytes-from-requires Inv-loop μ-loop
 bytes-from-requires c κs = search needs
 
-data-length-requires : tie.Need-data-length-requires
-data-length-requires c κs = search needs
-
-faulty-requires-2 : tie.Need-faulty-requires-2
+faulty-requires-2 : tie.Need-faulty-requires-2 Inv-loop μ-loop
 faulty-requires-2 c κs = search needs
 
-returns-2 : tie.Need-returns-2
+returns-2 : tie.Need-returns-2 Inv-loop μ-loop
 returns-2 c =
-    let a = c .before .before .before .before .before .before .before .before .before .args in
-    let e = at-short (a .body .now) (a .left) (a .at .byte) (a .from .byte) (c .before .before .before .before .at-most-four .result) (c .before .before .before .before .before .wide .result) (omega (arith, c .before .before .before .before .before .before .before .if1 .left)) (c .before .before .before .before .at-most-four .ensures) (c .before .before .before .before .before .wide .ensures .0)
-    (omega (arith, c .before .before .data-length .ensures, c .before .before .before .bytes-from .ensures, c .before .if2 .taken)) in
-    record { told = c .faulty2 .ensures .told ∙ e; few = c .faulty2 .ensures .few }
+    let measured : At tie.After-bytes-from = search in
+    let turn : At tie.In-loop = search in
+    reads-cut (turn .before .loop .inv) (turn .loop-test .taken) (omega arith) (c .faulty2 .ensures)
 
-unused-requires : tie.Need-unused-requires
-unused-requires c κs = search needs
+number-at-requires : tie.Need-number-at-requires Inv-loop μ-loop
+number-at-requires c κs =
+    let measured : At tie.After-bytes-from = search in
+    (omega arith, omega arith, omega arith)
 
-faulty-requires-3 : tie.Need-faulty-requires-3
+byte-length-requires : tie.Need-byte-length-requires Inv-loop μ-loop
+byte-length-requires c κs = search needs
+
+faulty-requires-3 : tie.Need-faulty-requires-3 Inv-loop μ-loop
 faulty-requires-3 c κs = search needs
 
-returns-3 : tie.Need-returns-3
+returns-3 : tie.Need-returns-3 Inv-loop μ-loop
 returns-3 c =
-    let a = c .before .before .before .before .before .before .before .before .before .before .before .args in
-    let e = at-used (a .body .now) (a .left) (a .at .byte) (a .from .byte) (c .before .before .before .before .before .before .at-most-four .result) (c .before .before .before .before .before .before .before .wide .result) (omega (arith, c .before .before .before .before .before .before .before .before .before .if1 .left)) (c .before .before .before .before .before .before .at-most-four .ensures) (c .before .before .before .before .before .before .before .wide .ensures .0)
-    (omega (arith, c .before .before .before .before .data-length .ensures, c .before .before .before .before .before .bytes-from .ensures, c .before .before .before .if2 .left)) (λ q. c .before .if3 .taken (c .before .before .unused .ensures ∙ q)) in
-    record { told = c .faulty3 .ensures .told ∙ e; few = c .faulty3 .ensures .few }
+    let long : At tie.After-byte-length = search in
+    let number : At tie.After-number-at = search in
+    let turn : At tie.In-loop = search in
+    reads-long (turn .before .loop .inv) (turn .loop-test .taken) refl (number .number-at .ensures)
+    (λ e. c .before .if3 .taken (long .byte-length .ensures ∙ e)) (c .faulty3 .ensures)
 
-numbers-at-requires : tie.Need-numbers-at-requires
-numbers-at-requires c κs = search needs
+mul-numbers : tie.Need-mul-numbers Inv-loop μ-loop
+mul-numbers c =
+    let turn : At tie.In-loop = search in
+    omega arith
 
-returns-4 : tie.Need-returns-4
+array-write-numbers : tie.Need-array-write-numbers Inv-loop μ-loop
+array-write-numbers c =
+    let turn : At tie.In-loop = search in
+    omega (arith, turn .before .loop .inv)
+
+add-to : tie.Need-add-to Inv-loop μ-loop
+add-to c =
+    let measured : At tie.After-bytes-from = search in
+    omega arith
+
+add-i : tie.Need-add-i Inv-loop μ-loop
+add-i c =
+    let turn : At tie.In-loop = search in
+    omega arith
+
+loop-less : tie.Need-loop-less Inv-loop μ-loop
+loop-less c =
+    let turn : At tie.In-loop = search in
+    omega arith
+
+loop-again : tie.Need-loop-again Inv-loop μ-loop
+loop-again c =
+    let long : At tie.After-byte-length = search in
+    let number : At tie.After-number-at = search in
+    let measured : At tie.After-bytes-from = search in
+    let turn : At tie.In-loop = search in
+    reads-turn (turn .before .loop .inv) (turn .loop-test .taken) refl (number .number-at .ensures) (omega arith)
+    (sym (long .byte-length .ensures) ∙ c .if3 .left)
+
+faulty-requires-4 : tie.Need-faulty-requires-4 Inv-loop μ-loop
+faulty-requires-4 c κs = search needs
+
+returns-4 : tie.Need-returns-4 Inv-loop μ-loop
 returns-4 c =
-    let a = c .before .before .before .before .before .before .before .before .before .before .before .args in
-    let e = at-numbers (a .body .now) (a .left) (a .at .byte) (a .from .byte) (c .before .before .before .before .before .before .at-most-four .result) (c .before .before .before .before .before .before .before .wide .result) (omega (arith, c .before .before .before .before .before .before .before .before .before .if1 .left)) (c .before .before .before .before .before .before .at-most-four .ensures) (c .before .before .before .before .before .before .before .wide .ensures .0)
-    (omega (arith, c .before .before .before .before .data-length .ensures, c .before .before .before .before .before .bytes-from .ensures, c .before .before .before .if2 .left)) (sym (c .before .before .unused .ensures) ∙ c .before .if3 .left) in
-    record { told = c .numbers-at .ensures .told ∙ e; few = c .numbers-at .ensures .few }
+    let done : At tie.After-loop = search in
+    reads-used (done .before .loop .inv) (done .loop-test .left) (c .before .if4 .taken) (c .faulty4 .ensures)
+
+next-of-requires : tie.Need-next-of-requires Inv-loop μ-loop
+next-of-requires c κs = omega arith
+
+returns-5 : tie.Need-returns-5 Inv-loop μ-loop
+returns-5 c =
+    let within : At tie.Else4 = search in
+    let done : At tie.After-loop = search in
+    let next : At tie.After-next-of = search in
+    reads-end (done .before .loop .inv) (done .loop-test .left) (within .if4 .left) (next .next-of .ensures)
 
 pub group-at-spec : {M : Type 1} → statement M
 group-at-spec =
     tie.close
     (tie.spec
+    Inv-loop
+    μ-loop
     faulty-requires
     returns
+    lesser-requires
+    data-of-requires
     shared-slice-read-wide
     wide-requires
-    cast-c
-    at-most-four-requires
+    cast-control
+    loop-holds
+    add-len
     bytes-from-requires
-    data-length-requires
     faulty-requires-2
     returns-2
-    unused-requires
+    number-at-requires
+    byte-length-requires
     faulty-requires-3
     returns-3
-    numbers-at-requires
-    returns-4)
+    mul-numbers
+    array-write-numbers
+    add-to
+    add-i
+    loop-less
+    loop-again
+    faulty-requires-4
+    returns-4
+    next-of-requires
+    returns-5)

@@ -1,14 +1,9 @@
 -- What is still to be put, put from here on, makes the whole; a turn puts one control byte. Assumes nothing.
-use borrow.Author.Needs.{needs}
-use Prim.Native.Nat.{ℕ, _+_, _-_}
+use Prim.Native.Nat.{_+_, _-_}
 use native.Mathlib.Omega.{arith}
-use mathlib.Core.Path.{refl, _∙_, ap}
-use mathlib.Core.List.{[], _∷_}
-use lib.ListN.{set}
-use Rattle.meaning.specs.Groups.{control}
-use Rattle.meaning.specs.Places.{part}
 use Rattle.groups.specs.Parts.{controlsOf}
-use Rattle.groups.proofs.Puts.{PutSo, put-start, put-turn, put-end, put-long, controls-none, controls-turn, controls-bound}
+use Rattle.groups.proofs.Puts.{PutSo, put-start, put-turn, put-end, put-long, put-one, controls-none, controls-turn, controls-bound}
+use borrow.Author.Needs.{needs}
 use Rattle.groups.proofs.put.put_controls.Statement.{statement}
 use Rattle.groups.proofs.put.put_controls.Tie as tie
 
@@ -20,16 +15,21 @@ abbrev μ-loop : tie.MeasureT-loop
 μ-loop list n out₀ first to₀ i₀ out to i =
     n - i
 
+-- a point of the program: `let turn : At tie.In-loop = search in` finds, by its type, the one that c came by
+abbrev At : (tie.InvT-loop → tie.MeasureT-loop → Type 0) → Type 0
+At point = point Inv-loop μ-loop
+
 loop-holds : tie.Need-loop-holds Inv-loop μ-loop
 loop-holds c =
-    let a = c .before .before .args in
+    let start : At tie.Start = search in
+    let a = start .args in
     put-start (controlsOf (a .list .now)) (a .from .number) (a .n) (a .at .byte) (a .out .now)
 
-sub-at-most-four : tie.Need-sub-at-most-four Inv-loop μ-loop
-sub-at-most-four c = search needs
+sub-lesser : tie.Need-sub-lesser Inv-loop μ-loop
+sub-lesser c = search needs
 
-at-most-four-requires : tie.Need-at-most-four-requires Inv-loop μ-loop
-at-most-four-requires c κs = search needs
+lesser-requires : tie.Need-lesser-requires Inv-loop μ-loop
+lesser-requires c κs = search needs
 
 add-place : tie.Need-add-place Inv-loop μ-loop
 add-place c = search needs
@@ -42,8 +42,10 @@ put-requires c κs = search needs
 
 add-to : tie.Need-add-to Inv-loop μ-loop
 add-to c =
-    let a = c .before .before .before .before .before .before .before .before .before .before .args in
-    omega (arith, c .before .before .before .before .before .before .before .loop .inv .ends, controls-bound (a .list .now) (a .from .number) (a .n) (c .before .before .before .before .before .before .before .before .before .before .pre .0), c .before .before .before .before .before .before .before .before .before .before .pre .1)
+    let turn : At tie.In-loop = search in
+    let start : At tie.Start = search in
+    let a = start .args in
+    omega (arith, turn .before .loop .inv, controls-bound (a .list .now) (a .from .number) (a .n) (start .pre .0), start .pre .1)
 
 add-i : tie.Need-add-i Inv-loop μ-loop
 add-i c = search needs
@@ -53,25 +55,25 @@ loop-less c = search needs
 
 loop-again : tie.Need-loop-again Inv-loop μ-loop
 loop-again c =
-    let a = c .before .before .before .before .before .before .before .before .before .before .args in
-    let l = c .before .before .before .before .before .before .before .loop in
-    let k = c .before .before .before .before .before .at-most-four .result in
-    let g = part (a .list .now) (a .from .number + l .i) k in
-    put-turn (controlsOf (a .list .now)) (a .from .number) (a .n) (a .at .byte) (a .out .now) (l .out) (l .to) (l .i) (l .inv) k (control g ∷ []) _ (record { byte = l .to + 1 }) (omega (arith, c .before .before .before .before .before .before .loop-test .taken, c .before .before .before .before .before .at-most-four .ensures))
-    (controls-turn (a .list .now) (a .from .number + l .i) (a .n - l .i) (omega (arith, c .before .before .before .before .before .before .loop-test .taken)) (omega (arith, c .before .before .before .before .before .before .before .before .before .before .pre .0, l .inv .most)) k (c .before .before .before .before .before .at-most-four .ensures))
-    (record { ends = refl; here = c .before .before .put .ensures ∙ ap (λ (b : ℕ). set (l .out) (l .to) b) (c .before .before .before .control-of .ensures) })
+    let head : At tie.After-put = search in
+    let control : At tie.After-control-of = search in
+    let count : At tie.After-lesser = search in
+    let turn : At tie.In-loop = search in
+    let start : At tie.Start = search in
+    let l = turn .before .loop in
+    let a = start .args in
+    let more = turn .loop-test .taken in
+    let most = count .lesser .ensures in
+    let next = controls-turn (a .list .now) (a .from .number + l .i) (a .n - l .i) (omega arith) (omega (arith, start .pre .0)) (count .lesser .result) most in
+    put-turn (l .inv) (count .lesser .result) (omega arith) next (put-one (head .put .ensures) (control .control-of .ensures))
 
 same-length : tie.Need-same-length Inv-loop μ-loop
-same-length c =
-    let a = c .before .before .before .before .args in
-    let l = c .before .loop in
-    put-long (controlsOf (a .list .now)) (a .from .number) (a .n) (a .at .byte) (a .out .now) (l .out) (l .to) (l .i) (l .inv)
+same-length c = put-long (c .before .loop .inv)
 
 returns : tie.Need-returns Inv-loop μ-loop
 returns c =
-    let a = c .before .before .before .before .args in
-    let l = c .before .loop in
-    put-end (controlsOf (a .list .now)) (a .from .number) (a .n) (a .at .byte) (a .out .now) (l .out) (l .to) (l .i) (l .inv) (c .loop-test .left) (controls-none (a .list .now))
+    let start : At tie.Start = search in
+    put-end (c .before .loop .inv) (c .loop-test .left) (controls-none (start .args .list .now))
 
 pub put-controls-spec : {M : Type 1} → statement M
 put-controls-spec =
@@ -80,8 +82,8 @@ put-controls-spec =
     Inv-loop
     μ-loop
     loop-holds
-    sub-at-most-four
-    at-most-four-requires
+    sub-lesser
+    lesser-requires
     add-place
     control-of-requires
     put-requires

@@ -1,13 +1,10 @@
--- What is still to be put, put from here on, makes the whole; a turn puts one number's bytes. Assumes nothing.
-use borrow.Author.Needs.{needs}
-use Prim.Native.Nat.{ℕ, _+_, _-_}
+-- What is still to be put, put from here on, makes the whole; a turn puts one number. Assumes nothing.
+use Prim.Native.Nat.{_+_, _-_}
 use native.Mathlib.Omega.{arith}
-use mathlib.Core.Path.{_∙_, sym, ap}
 use lib.ListN.{getD}
-use Rattle.fields.proofs.Fields.{few-length}
-use Rattle.meaning.specs.Fields.{fewest}
 use Rattle.groups.specs.Parts.{fieldsOf}
-use Rattle.groups.proofs.Puts.{PutSo, put-start, put-turn, put-end, put-long, fields-none, fields-turn, fields-bound}
+use Rattle.groups.proofs.Puts.{PutSo, put-start, put-turn, put-end, put-long, put-few, fields-none, fields-turn, fields-bound}
+use borrow.Author.Needs.{needs}
 use Rattle.groups.proofs.put.put_fields.Statement.{statement}
 use Rattle.groups.proofs.put.put_fields.Tie as tie
 
@@ -19,9 +16,14 @@ abbrev μ-loop : tie.MeasureT-loop
 μ-loop list n out₀ first to₀ i₀ out to i =
     n - i
 
+-- a point of the program: `let turn : At tie.In-loop = search in` finds, by its type, the one that c came by
+abbrev At : (tie.InvT-loop → tie.MeasureT-loop → Type 0) → Type 0
+At point = point Inv-loop μ-loop
+
 loop-holds : tie.Need-loop-holds Inv-loop μ-loop
 loop-holds c =
-    let a = c .before .before .args in
+    let start : At tie.Start = search in
+    let a = start .args in
     put-start (fieldsOf (a .list .now)) (a .from .number) (a .n) (a .at .byte) (a .out .now)
 
 add-put-fewest : tie.Need-add-put-fewest Inv-loop μ-loop
@@ -35,8 +37,10 @@ shared-slice-read-put-fewest c = search needs
 
 put-fewest-requires : tie.Need-put-fewest-requires Inv-loop μ-loop
 put-fewest-requires c κs =
-    let a = c .before .before .before .before .before .before .args in
-    omega (arith, c .before .before .before .loop .inv .ends, fields-bound (a .list .now) (a .from .number) (a .n) (c .before .before .before .before .before .before .pre .0))
+    let turn : At tie.In-loop = search in
+    let start : At tie.Start = search in
+    let a = start .args in
+    omega (arith, turn .before .loop .inv, fields-bound (a .list .now) (a .from .number) (a .n) (start .pre .0))
 
 add-i : tie.Need-add-i Inv-loop μ-loop
 add-i c = search needs
@@ -46,24 +50,22 @@ loop-less c = search needs
 
 loop-again : tie.Need-loop-again Inv-loop μ-loop
 loop-again c =
-    let a = c .before .before .before .before .before .before .before .before .before .args in
-    let l = c .before .before .before .before .before .before .loop in
-    let x = getD (a .list .now) (a .from .number + l .i) 0 in
-    put-turn (fieldsOf (a .list .now)) (a .from .number) (a .n) (a .at .byte) (a .out .now) (l .out) (l .to) (l .i) (l .inv) 1 (fewest x) _ (record { byte = _ }) (omega (arith, c .before .before .before .before .before .loop-test .taken))
-    (fields-turn (a .list .now) (a .from .number + l .i) (a .n - l .i) (omega (arith, c .before .before .before .before .before .loop-test .taken)) (omega (arith, c .before .before .before .before .before .before .before .before .before .pre .0, l .inv .most)))
-    (record { ends = c .before .before .put-fewest .ensures .0 ∙ ap (λ (m : ℕ). l .to + m) (sym (few-length x)); here = c .before .before .put-fewest .ensures .1 })
+    let put : At tie.After-put-fewest = search in
+    let turn : At tie.In-loop = search in
+    let start : At tie.Start = search in
+    let l = turn .before .loop in
+    let a = start .args in
+    let more = turn .loop-test .taken in
+    let next = fields-turn (a .list .now) (a .from .number + l .i) (a .n - l .i) (omega arith) (omega (arith, start .pre .0)) in
+    put-turn (l .inv) 1 (omega arith) next (put-few (getD (a .list .now) (a .from .number + l .i) 0) (put .put-fewest .ensures))
 
 same-length : tie.Need-same-length Inv-loop μ-loop
-same-length c =
-    let a = c .before .before .before .before .args in
-    let l = c .before .loop in
-    put-long (fieldsOf (a .list .now)) (a .from .number) (a .n) (a .at .byte) (a .out .now) (l .out) (l .to) (l .i) (l .inv)
+same-length c = put-long (c .before .loop .inv)
 
 returns : tie.Need-returns Inv-loop μ-loop
 returns c =
-    let a = c .before .before .before .before .args in
-    let l = c .before .loop in
-    put-end (fieldsOf (a .list .now)) (a .from .number) (a .n) (a .at .byte) (a .out .now) (l .out) (l .to) (l .i) (l .inv) (c .loop-test .left) (fields-none (a .list .now))
+    let start : At tie.Start = search in
+    put-end (c .before .loop .inv) (c .loop-test .left) (fields-none (start .args .list .now))
 
 pub put-fields-spec : {M : Type 1} → statement M
 put-fields-spec =

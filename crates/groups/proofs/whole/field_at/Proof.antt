@@ -15,8 +15,12 @@ element-copy-out-result c = search needs
 
 returns : tie.Need-returns
 returns c =
-    let a = c .before .before .before .args in
-    rw (c .before .word-at .ensures, c .before .before .before .pre .2) (masked (a .body .now) (a .at) (λ i. c .before .before .shared-slice-known .given i .fits) (c .before .before .before .pre .1) (a .f) (c .before .before .before .pre .0))
+    let word : tie.After-word-at = search in
+    let known : tie.After-shared-slice-known = search in
+    let start : tie.Start = search in
+    let a = start .args in
+    let (few, there, largest) = start .pre in
+    rw (word .word-at .ensures, largest) (masked (a .body .now) (a .at) (λ i. known .shared-slice-known .given i .fits) there (a .f) few)
 
 pub field-at-spec : {M : Type 1} → statement M
 field-at-spec = tie.close (tie.spec word-at-requires mul-result element-copy-out-result returns)

@@ -1,34 +1,36 @@
--- The first numbers by a plan: a call's facts are handed to the law of its stage. Assumes nothing.
+-- The first numbers by a plan: what the callees ensure is handed to the law of its stage. Assumes nothing.
 use Prim.Native.Nat.{ℕ, _+_, _-_, _*_, _<_}
 use mathlib.Core.Path.{refl, sym, _∙_}
 use native.Mathlib.Omega.{arith}
 use lib.ListN.{length}
 use borrow.Author.Needs.{needs}
-use borrow.Fn.Kinds.{In}
-use borrow.Fn.PlainCycle.{Measures, is, falls, and}
-use Rattle.fields.proofs.word_at.Reads as word-at-reads
 use Rattle.judge.proofs.PlanLaws.{at-bad, at-code, at-reference, at-differences, at-runs}
-use Rattle.judge.proofs.stage.plan_end.Reads as plan-end-reads
-use Rattle.judge.proofs.stage.stage_at.Reads as stage-at-reads
-use Rattle.codes.proofs.walk.firsts_code.Reads as firsts-code-reads
-use Rattle.plan_look.specs.Told.{headerSays}
-use Rattle.plan_look.proofs.Finds.{says-so}
-use Rattle.plan_look.proofs.Looks.{header-given, header-after}
-use Rattle.plan_look.proofs.Plans.{part-short, code-space, counted-fits, scope-inner, scope-runs, lengths-fit, scope-lengths, scope-values, runs-fit, bad-firsts, code-firsts, same-firsts, differences-firsts, reference-none, reference-firsts, runs-none, runs-firsts}
+use Rattle.stages.proofs.Headers.{Headed, headed, headless}
+use Rattle.stages.proofs.Parts.{part-short}
+use Rattle.stages.proofs.Rooms.{fits-list, fits-inner, fits-runs, fits-values, fits-lengths, fits-spread}
+use Rattle.plan_look.proofs.Plans.{code-space, bad-firsts, code-firsts, same-firsts, reference-none, reference-firsts}
+use Rattle.plan_look.proofs.Plans.{differences-firsts, runs-none, runs-firsts}
+use borrow.Fn.Kinds.{In, Out}
+use borrow.Fn.PlainCycle.{Measures, is, falls, and}
 use Rattle.plan_look.proofs.firsts.firsts_plan.Reads as firsts-plan
 use Rattle.plan_look.proofs.firsts.firsts_plan.Kinds as firsts-plan-kinds
-use Rattle.plan_look.proofs.firsts.+firsts_plan+firsts_runs.Lts-firsts_plan as firsts-plan-lts
+use Rattle.plan_look.proofs.firsts.+firsts_plan+firsts_runs.Lts-firsts_plan as plan
 use Rattle.plan_look.proofs.firsts.firsts_runs.Reads as firsts-runs
 use Rattle.plan_look.proofs.firsts.firsts_runs.Kinds as firsts-runs-kinds
-use Rattle.plan_look.proofs.firsts.+firsts_plan+firsts_runs.Lts-firsts_runs as firsts-runs-lts
-use Rattle.plan_look.proofs.lists.lesser.Reads as lesser-reads
-use Rattle.plan_look.proofs.lists.raise_firsts.Reads as raise-firsts-reads
-use Rattle.plan_look.proofs.lists.spread_runs.Reads as spread-runs-reads
-use Rattle.plan_look.proofs.lists.sum_firsts.Reads as sum-firsts-reads
-use Rattle.plan_look.proofs.runs.header_of.Reads as header-of-reads
+use Rattle.plan_look.proofs.firsts.+firsts_plan+firsts_runs.Lts-firsts_runs as runs
+use Rattle.codes.proofs.firsts_code.Reads as firsts-code-reads
+use Rattle.fields.proofs.word_at.Reads as word-at-reads
+use Rattle.judge.proofs.stage.plan_end.Reads as plan-end-reads
+use Rattle.judge.proofs.stage.stage_at.Reads as stage-at-reads
+use Rattle.leaves.proofs.lesser.Reads as lesser-reads
+use Rattle.plan_look.proofs.firsts.cut_at.Reads as cut-at-reads
+use Rattle.plan_look.proofs.firsts.ended.Reads as ended-reads
+use Rattle.plan_look.proofs.firsts.spread_runs.Reads as spread-runs-reads
+use Rattle.stages.proofs.header_of.Reads as header-of-reads
+use Rattle.stages.proofs.raise_firsts.Reads as raise-firsts-reads
+use Rattle.stages.proofs.sum_firsts.Reads as sum-firsts-reads
 use Rattle.plan_look.proofs.firsts.+firsts_plan+firsts_runs.{statement}
 use Rattle.plan_look.proofs.firsts.+firsts_plan+firsts_runs.Tie.{close}
-use Rattle.plan_look.proofs.lists.ended.Reads as ended-reads
 
 abbrev μ-firsts-plan : Measures 3 firsts-plan-kinds.ps ℕ
 μ-firsts-plan κs a =
@@ -39,293 +41,304 @@ abbrev μ-firsts-runs : Measures 3 firsts-runs-kinds.ps ℕ
     2 * a .1 .1 .0 + 1
 
 abbrev firsts-plan-at : ℕ → In 3 firsts-plan-kinds.ps
-firsts-plan-at t =
-    and 3 firsts-plan-kinds.ps (is 3 firsts-plan-kinds.ps μ-firsts-plan t) firsts-plan.Pre
+firsts-plan-at t = and 3 firsts-plan-kinds.ps (is 3 firsts-plan-kinds.ps μ-firsts-plan t) firsts-plan.Pre
 
 abbrev firsts-plan-below : ℕ → In 3 firsts-plan-kinds.ps
-firsts-plan-below t =
-    and 3 firsts-plan-kinds.ps (falls 3 firsts-plan-kinds.ps _<_ μ-firsts-plan t) firsts-plan.Pre
+firsts-plan-below t = and 3 firsts-plan-kinds.ps (falls 3 firsts-plan-kinds.ps _<_ μ-firsts-plan t) firsts-plan.Pre
 
 abbrev firsts-runs-at : ℕ → In 3 firsts-runs-kinds.ps
-firsts-runs-at t =
-    and 3 firsts-runs-kinds.ps (is 3 firsts-runs-kinds.ps μ-firsts-runs t) firsts-runs.Pre
+firsts-runs-at t = and 3 firsts-runs-kinds.ps (is 3 firsts-runs-kinds.ps μ-firsts-runs t) firsts-runs.Pre
 
 abbrev firsts-runs-below : ℕ → In 3 firsts-runs-kinds.ps
-firsts-runs-below t =
-    and 3 firsts-runs-kinds.ps (falls 3 firsts-runs-kinds.ps _<_ μ-firsts-runs t) firsts-runs.Pre
+firsts-runs-below t = and 3 firsts-runs-kinds.ps (falls 3 firsts-runs-kinds.ps _<_ μ-firsts-runs t) firsts-runs.Pre
 
-abbrev firsts-plan-claims : ℕ → firsts-plan-lts.Claims
-firsts-plan-claims t = (stage-at-reads.Asked, stage-at-reads.Learnt, ended-reads.Asked, ended-reads.Learnt, firsts-code-reads.Asked, firsts-code-reads.Learnt, word-at-reads.Asked, word-at-reads.Learnt, firsts-plan-below t, firsts-plan.Post, raise-firsts-reads.Asked, raise-firsts-reads.Learnt, sum-firsts-reads.Asked, sum-firsts-reads.Learnt, firsts-runs-below t, firsts-runs.Post)
+abbrev firsts-plan-claims : ℕ → plan.Claims
+firsts-plan-claims t = (
+  stage-at-reads.Asked,
+  stage-at-reads.Learnt,
+  ended-reads.Asked,
+  ended-reads.Learnt,
+  firsts-code-reads.Asked,
+  firsts-code-reads.Learnt,
+  word-at-reads.Asked,
+  word-at-reads.Learnt,
+  firsts-plan-below t,
+  firsts-plan.Post,
+  raise-firsts-reads.Asked,
+  raise-firsts-reads.Learnt,
+  cut-at-reads.Asked,
+  cut-at-reads.Learnt,
+  sum-firsts-reads.Asked,
+  sum-firsts-reads.Learnt,
+  firsts-runs-below t,
+  firsts-runs.Post,
+)
 
-abbrev firsts-runs-claims : ℕ → firsts-runs-lts.Claims
-firsts-runs-claims t = (header-of-reads.Asked, header-of-reads.Learnt, ended-reads.Asked, ended-reads.Learnt, lesser-reads.Asked, lesser-reads.Learnt, plan-end-reads.Asked, plan-end-reads.Learnt, firsts-plan-below t, firsts-plan.Post, spread-runs-reads.Asked, spread-runs-reads.Learnt)
+abbrev firsts-runs-claims : ℕ → runs.Claims
+firsts-runs-claims t = (
+  header-of-reads.Asked,
+  header-of-reads.Learnt,
+  ended-reads.Asked,
+  ended-reads.Learnt,
+  lesser-reads.Asked,
+  lesser-reads.Learnt,
+  plan-end-reads.Asked,
+  plan-end-reads.Learnt,
+  firsts-plan-below t,
+  firsts-plan.Post,
+  spread-runs-reads.Asked,
+  spread-runs-reads.Learnt,
+)
 
-firsts-plan-stage-at-requires : (t : ℕ) → firsts-plan-lts.Need-stage-at-requires (firsts-plan-claims t) (firsts-plan-at t) firsts-plan.Post
-firsts-plan-stage-at-requires t c κs =
-    search needs
+-- ---- a point of firsts_plan, or what is asked there; `search` finds, by its type, the one that c came by
+module _ (t : ℕ) where
+  abbrev In-plan : (plan.Claims → In 3 firsts-plan-kinds.ps → Out 3 firsts-plan-kinds.ps firsts-plan-kinds.r → Type 0) → Type 0
+  In-plan point = point (firsts-plan-claims t) (firsts-plan-at t) firsts-plan.Post
 
-firsts-plan-enum-told : (t : ℕ) → firsts-plan-lts.Need-enum-told (firsts-plan-claims t) (firsts-plan-at t) firsts-plan.Post
-firsts-plan-enum-told t c =
-    search needs
+  firsts-plan-firsts-code-requires : In-plan plan.Need-firsts-code-requires
+  firsts-plan-firsts-code-requires c κs =
+      let start : In-plan plan.Start = search in
+      code-space (start .pre .1 .0) (start .pre .1 .1)
 
-firsts-plan-ended-requires : (t : ℕ) → firsts-plan-lts.Need-ended-requires (firsts-plan-claims t) (firsts-plan-at t) firsts-plan.Post
-firsts-plan-ended-requires t c κs = search needs
+  firsts-plan-returns : In-plan plan.Need-returns
+  firsts-plan-returns c =
+      let made : In-plan plan.After-ended2 = search in
+      let short : In-plan plan.Then1 = search in
+      let arm : In-plan plan.After-next = search in
+      let staged : In-plan plan.After-stage-at = search in
+      let start : In-plan plan.Start = search in
+      let is = at-reference _ _ _ _ _ (sym (staged .stage-at .ensures) ∙ arm .next .given .1) in
+      reference-none _ _ _ _ _ _ _ (is .0) (short .if1 .taken) (made .ended2 .ensures)
 
-firsts-plan-enum-known-code : (t : ℕ) → firsts-plan-lts.Need-enum-known-code (firsts-plan-claims t) (firsts-plan-at t) firsts-plan.Post
-firsts-plan-enum-known-code t c =
-    search needs
+  firsts-plan-firsts-plan-requires : In-plan plan.Need-firsts-plan-requires
+  firsts-plan-firsts-plan-requires c κs =
+      let arm : In-plan plan.After-next = search in
+      let staged : In-plan plan.After-stage-at = search in
+      let start : In-plan plan.Start = search in
+      let is = at-reference _ _ _ _ _ (sym (staged .stage-at .ensures) ∙ arm .next .given .1) in
+      (omega arith, (fits-inner (start .pre .1 .0) (is .1) (part-short (start .args .body .now) 4 (length (start .args .body .now) - 4)), start .pre .1 .1))
 
-firsts-plan-firsts-code-requires : (t : ℕ) → firsts-plan-lts.Need-firsts-code-requires (firsts-plan-claims t) (firsts-plan-at t) firsts-plan.Post
-firsts-plan-firsts-code-requires t c κs =
-    code-space _ _ _ _ _ _ (c .before .before .before .before .before .before .before .before .pre .1)
+  firsts-plan-raise-firsts-requires : In-plan plan.Need-raise-firsts-requires
+  firsts-plan-raise-firsts-requires c κs =
+      let inner : In-plan plan.After-firsts-plan = search in
+      let start : In-plan plan.Start = search in
+      let room = fits-list (start .pre .1 .0) in
+      let same = inner .firsts-plan .kept .1 .1 .1 .1 .1 .1 .0 in
+      let few = inner .firsts-plan .ensures .most in
+      omega (arith, start .pre .1 .1)
 
-firsts-plan-enum-known-next : (t : ℕ) → firsts-plan-lts.Need-enum-known-next (firsts-plan-claims t) (firsts-plan-at t) firsts-plan.Post
-firsts-plan-enum-known-next t c =
-    search needs
+  firsts-plan-firsts-plan-requires-2 : In-plan plan.Need-firsts-plan-requires-2
+  firsts-plan-firsts-plan-requires-2 c κs =
+      let arm : In-plan plan.After-next2 = search in
+      let staged : In-plan plan.After-stage-at = search in
+      let start : In-plan plan.Start = search in
+      let is = at-differences _ _ _ _ _ (sym (staged .stage-at .ensures) ∙ arm .next2 .given .1) in
+      (omega arith, (fits-inner (start .pre .1 .0) (is .1) (omega arith), start .pre .1 .1))
 
-firsts-plan-ended-requires-2 : (t : ℕ) → firsts-plan-lts.Need-ended-requires-2 (firsts-plan-claims t) (firsts-plan-at t) firsts-plan.Post
-firsts-plan-ended-requires-2 t c κs = search needs
+  firsts-plan-sum-firsts-requires : In-plan plan.Need-sum-firsts-requires
+  firsts-plan-sum-firsts-requires c κs =
+      let inner : In-plan plan.After-firsts-plan2 = search in
+      let start : In-plan plan.Start = search in
+      let room = fits-list (start .pre .1 .0) in
+      let same = inner .firsts-plan2 .kept .1 .1 .1 .1 .1 .1 .0 in
+      let few = inner .firsts-plan2 .ensures .most in
+      omega (arith, start .pre .1 .1)
 
-firsts-plan-returns : (t : ℕ) → firsts-plan-lts.Need-returns (firsts-plan-claims t) (firsts-plan-at t) firsts-plan.Post
-firsts-plan-returns t c =
-    let g = at-reference _ _ _ _ _ (sym (c .before .before .before .before .before .stage-at .ensures) ∙ c .before .before .before .next .given .1) in
-    rw (c .ended2 .ensures) (reference-none _ _ _ _ _ _ (g .0) _ (c .before .if1 .taken))
+  firsts-plan-firsts-runs-requires : In-plan plan.Need-firsts-runs-requires
+  firsts-plan-firsts-runs-requires c κs =
+      let arm : In-plan plan.After-next3 = search in
+      let staged : In-plan plan.After-stage-at = search in
+      let start : In-plan plan.Start = search in
+      let is = at-runs _ _ _ _ _ (sym (staged .stage-at .ensures) ∙ arm .next3 .given .1) in
+      (omega arith, (fits-runs (start .pre .1 .0) (is .1), start .pre .1 .1))
 
-firsts-plan-word-at-requires : (t : ℕ) → firsts-plan-lts.Need-word-at-requires (firsts-plan-claims t) (firsts-plan-at t) firsts-plan.Post
-firsts-plan-word-at-requires t c κs =
-    search needs
+  firsts-plan-returns-2 : In-plan plan.Need-returns-2
+  firsts-plan-returns-2 c =
+      let made : In-plan plan.After-ended = search in
+      let told : In-plan plan.After-enum-told = search in
+      let staged : In-plan plan.After-stage-at = search in
+      bad-firsts _ _ _ _ _ _ (at-bad _ _ _ (sym (staged .stage-at .ensures) ∙ told .enum-told .given .1)) (made .ended .ensures)
 
-firsts-plan-sub-firsts-plan : (t : ℕ) → firsts-plan-lts.Need-sub-firsts-plan (firsts-plan-claims t) (firsts-plan-at t) firsts-plan.Post
-firsts-plan-sub-firsts-plan t c =
-    search needs
+  firsts-plan-returns-3 : In-plan plan.Need-returns-3
+  firsts-plan-returns-3 c =
+      let done : In-plan plan.After-firsts-code = search in
+      let arm : In-plan plan.After-code = search in
+      let staged : In-plan plan.After-stage-at = search in
+      let is = at-code _ _ _ _ (sym (staged .stage-at .ensures) ∙ arm .code .given .1) in
+      code-firsts _ _ _ _ _ _ _ _ _ (is .0) (done .firsts-code .ensures)
 
-firsts-plan-part-firsts-plan-start : (t : ℕ) → firsts-plan-lts.Need-part-firsts-plan-start (firsts-plan-claims t) (firsts-plan-at t) firsts-plan.Post
-firsts-plan-part-firsts-plan-start t c =
-    search needs
+  firsts-plan-returns-4 : In-plan plan.Need-returns-4
+  firsts-plan-returns-4 c =
+      let made : In-plan plan.After-cut-at = search in
+      let raised : In-plan plan.After-raise-firsts = search in
+      let inner : In-plan plan.After-firsts-plan = search in
+      let least : In-plan plan.After-word-at = search in
+      let long : In-plan plan.Else1 = search in
+      let arm : In-plan plan.After-next = search in
+      let staged : In-plan plan.After-stage-at = search in
+      let start : In-plan plan.Start = search in
+      let is = at-reference _ _ _ _ _ (sym (staged .stage-at .ensures) ∙ arm .next .given .1) in
+      let room = fits-list (start .pre .1 .0) in
+      let same = inner .firsts-plan .kept .1 .1 .1 .1 .1 .1 .0 in
+      let few = inner .firsts-plan .ensures .most in
+      reference-firsts _ _ _ _ _ _ _ _ _ _ _ _ (is .0) (long .if1 .left) _ (least .word-at .ensures) (inner .firsts-plan .ensures)
+      (raised .raise-firsts .ensures)
+      (made .cut-at .ensures) (omega (arith, start .pre .1 .1))
 
-firsts-plan-part-firsts-plan-end : (t : ℕ) → firsts-plan-lts.Need-part-firsts-plan-end (firsts-plan-claims t) (firsts-plan-at t) firsts-plan.Post
-firsts-plan-part-firsts-plan-end t c =
-    search needs
+  firsts-plan-returns-5 : In-plan plan.Need-returns-5
+  firsts-plan-returns-5 c =
+      let made : In-plan plan.After-cut-at2 = search in
+      let summed : In-plan plan.After-sum-firsts = search in
+      let inner : In-plan plan.After-firsts-plan2 = search in
+      let arm : In-plan plan.After-next2 = search in
+      let staged : In-plan plan.After-stage-at = search in
+      let start : In-plan plan.Start = search in
+      let is = at-differences _ _ _ _ _ (sym (staged .stage-at .ensures) ∙ arm .next2 .given .1) in
+      let room = fits-list (start .pre .1 .0) in
+      let same = inner .firsts-plan2 .kept .1 .1 .1 .1 .1 .1 .0 in
+      let few = inner .firsts-plan2 .ensures .most in
+      differences-firsts _ _ _ _ _ _ _ _ _ _ _ _ (is .0) (inner .firsts-plan2 .ensures) (summed .sum-firsts .ensures) (made .cut-at2 .ensures)
+      (omega (arith, start .pre .1 .1))
 
-firsts-plan-firsts-plan-requires : (t : ℕ) → firsts-plan-lts.Need-firsts-plan-requires (firsts-plan-claims t) (firsts-plan-at t) firsts-plan.Post
-firsts-plan-firsts-plan-requires t c κs =
-    let s = c .before .before .before .before .before .before .before .before .before .before .before in
-    let b = s .args .body .now in
-    let g = at-reference _ _ _ _ _ (sym (c .before .before .before .before .before .before .before .stage-at .ensures) ∙ c .before .before .before .before .before .next .given .1) in
-    (omega (arith, s .pre .0, g .1), scope-inner _ _ _ _ _ _ (s .pre .1) _ (g .1) _ (part-short b 4 (length b - 4)))
+  firsts-plan-returns-6 : In-plan plan.Need-returns-6
+  firsts-plan-returns-6 c =
+      let done : In-plan plan.After-firsts-runs = search in
+      let arm : In-plan plan.After-next3 = search in
+      let staged : In-plan plan.After-stage-at = search in
+      let start : In-plan plan.Start = search in
+      let is = at-runs _ _ _ _ _ (sym (staged .stage-at .ensures) ∙ arm .next3 .given .1) in
+      same-firsts _ _ _ _ _ _ _ _ _ (is .0) (done .firsts-runs .ensures)
 
-firsts-plan-raise-firsts-requires : (t : ℕ) → firsts-plan-lts.Need-raise-firsts-requires (firsts-plan-claims t) (firsts-plan-at t) firsts-plan.Post
-firsts-plan-raise-firsts-requires t c κs =
-    let f = c .before .before .before .firsts-plan in
-    counted-fits _ _ _ _ _ _ (c .before .before .before .before .before .before .before .before .before .before .before .before .before .before .before .pre .1) (f .last .1 .1 .1 .1 .1 .1 .0) _ (f .kept .1 .1 .1 .1 .1 .1 .0) (f .ensures .most)
+-- ---- a point of firsts_runs, or what is asked there
+module _ (t : ℕ) where
+  abbrev In-runs : (runs.Claims → In 3 firsts-runs-kinds.ps → Out 3 firsts-runs-kinds.ps firsts-runs-kinds.r → Type 0) → Type 0
+  In-runs point = point (firsts-runs-claims t) (firsts-runs-at t) firsts-runs.Post
 
-firsts-plan-enum-known-next-2 : (t : ℕ) → firsts-plan-lts.Need-enum-known-next-2 (firsts-plan-claims t) (firsts-plan-at t) firsts-plan.Post
-firsts-plan-enum-known-next-2 t c =
-    search needs
+  -- back to the start, where it is too far for `search`
+  start-of : In-runs runs.After-runs → In-runs runs.Start
+  start-of c = search
 
-firsts-plan-firsts-plan-requires-2 : (t : ℕ) → firsts-plan-lts.Need-firsts-plan-requires-2 (firsts-plan-claims t) (firsts-plan-at t) firsts-plan.Post
-firsts-plan-firsts-plan-requires-2 t c κs =
-    let s = c .before .before .before .before .before .before .before .before in
-    let g = at-differences _ _ _ _ _ (sym (c .before .before .before .before .stage-at .ensures) ∙ c .before .before .next2 .given .1) in
-    (omega (arith, s .pre .0, g .1), scope-inner _ _ _ _ _ _ (s .pre .1) _ (g .1) _ (omega arith))
+  -- what the header tells
+  header : (c : In-runs runs.After-runs) → Headed (start-of c .args .n) (start-of c .args .body .now) (c .runs .given .0 .0) (c .runs .given .0 .1 .0 .byte)
+  unfolding start-of
+  header c = let told : In-runs runs.After-header-of = search in headed (told .header-of .ensures) (c .runs .given .1)
 
-firsts-plan-sum-firsts-requires : (t : ℕ) → firsts-plan-lts.Need-sum-firsts-requires (firsts-plan-claims t) (firsts-plan-at t) firsts-plan.Post
-firsts-plan-sum-firsts-requires t c κs =
-    let f = c .before .before .before .firsts-plan2 in
-    counted-fits _ _ _ _ _ _ (c .before .before .before .before .before .before .before .before .before .before .before .before .pre .1) (f .last .1 .1 .1 .1 .1 .1 .0) _ (f .kept .1 .1 .1 .1 .1 .1 .0) (f .ensures .most)
+  firsts-runs-firsts-plan-requires : In-runs runs.Need-firsts-plan-requires
+  unfolding start-of
+  firsts-runs-firsts-plan-requires c κs =
+      let few : In-runs runs.After-lesser = search in
+      let arm : In-runs runs.After-runs = search in
+      let head = header arm in
+      let start = start-of arm in
+      let split = arm .runs .given .0 .1 .0 .byte in
+      let short = part-short (start .args .body .now) 8 (split - 8) in
+      (omega (arith, start .pre .0), (fits-values (start .pre .1 .0) (head .few) short refl, omega (arith, few .lesser .ensures)))
 
-firsts-plan-enum-known-next-3 : (t : ℕ) → firsts-plan-lts.Need-enum-known-next-3 (firsts-plan-claims t) (firsts-plan-at t) firsts-plan.Post
-firsts-plan-enum-known-next-3 t c =
-    search needs
+  firsts-runs-firsts-plan-requires-2 : In-runs runs.Need-firsts-plan-requires-2
+  unfolding start-of
+  firsts-runs-firsts-plan-requires-2 c κs =
+      let values : In-runs runs.After-firsts-plan = search in
+      let few : In-runs runs.After-lesser = search in
+      let arm : In-runs runs.After-runs = search in
+      let head = header arm in
+      let start = start-of arm in
+      let split = arm .runs .given .0 .1 .0 .byte in
+      let short = part-short (start .args .body .now) split (length (start .args .body .now) - split) in
+      let same = values .firsts-plan .kept .1 .1 .1 .1 .1 .1 .0 in
+      (omega (arith, start .pre .0), (fits-lengths (start .pre .1 .0) (head .few) short same, omega (arith, few .lesser .ensures)))
 
-firsts-plan-firsts-runs-requires : (t : ℕ) → firsts-plan-lts.Need-firsts-runs-requires (firsts-plan-claims t) (firsts-plan-at t) firsts-plan.Post
-firsts-plan-firsts-runs-requires t c κs =
-    let s = c .before .before .before .before .before .before .before .before in
-    let g = at-runs _ _ _ _ _ (sym (c .before .before .before .before .stage-at .ensures) ∙ c .before .before .next3 .given .1) in
-    (omega (arith, s .pre .0, g .1), scope-runs _ _ _ _ _ _ (s .pre .1) _ (g .1))
+  firsts-runs-spread-runs-requires : In-runs runs.Need-spread-runs-requires
+  unfolding start-of
+  firsts-runs-spread-runs-requires c κs =
+      let lengths : In-runs runs.After-firsts-plan2 = search in
+      let values : In-runs runs.After-firsts-plan = search in
+      let few : In-runs runs.After-lesser = search in
+      let arm : In-runs runs.After-runs = search in
+      let head = header arm in
+      let start = start-of arm in
+      let small = few .lesser .ensures in (
+        omega (arith, fits-spread (start .pre .1 .0), values .firsts-plan .kept .1 .1 .1 .1 .1 .1 .0, lengths .firsts-plan2 .kept .1 .1 .1 .1 .1 .1 .0),
+        start .pre .1 .1,
+        omega (arith, values .firsts-plan .ensures .most, head .few),
+        omega (arith, lengths .firsts-plan2 .ensures .most, head .few),
+      )
 
-firsts-plan-returns-2 : (t : ℕ) → firsts-plan-lts.Need-returns-2 (firsts-plan-claims t) (firsts-plan-at t) firsts-plan.Post
-firsts-plan-returns-2 t c =
-    rw (c .ended .ensures) (bad-firsts _ _ _ _ _ _ (at-bad _ _ _ (sym (c .before .before .before .stage-at .ensures) ∙ c .before .enum-told .given .1)))
+  firsts-runs-returns : In-runs runs.Need-returns
+  firsts-runs-returns c =
+      let made : In-runs runs.After-ended = search in
+      let refusal : In-runs runs.After-e = search in
+      let told : In-runs runs.After-header-of = search in
+      runs-none _ _ _ _ _ _ _ _ _ (headless (told .header-of .ensures) (refusal .e .given .1)) (made .ended .ensures)
 
-firsts-plan-same-length : (t : ℕ) → firsts-plan-lts.Need-same-length (firsts-plan-claims t) (firsts-plan-at t) firsts-plan.Post
-firsts-plan-same-length t c =
-    search needs
-
-firsts-plan-returns-3 : (t : ℕ) → firsts-plan-lts.Need-returns-3 (firsts-plan-claims t) (firsts-plan-at t) firsts-plan.Post
-firsts-plan-returns-3 t c =
-    let g = at-code _ _ _ _ (sym (c .before .before .before .before .before .before .before .stage-at .ensures) ∙ c .before .before .before .before .before .code .given .1) in
-    code-firsts _ _ _ _ _ _ _ _ _ (g .0) (c .before .before .firsts-code .ensures)
-
-firsts-plan-same-length-2 : (t : ℕ) → firsts-plan-lts.Need-same-length-2 (firsts-plan-claims t) (firsts-plan-at t) firsts-plan.Post
-firsts-plan-same-length-2 t c =
-    search needs
-
-firsts-plan-returns-4 : (t : ℕ) → firsts-plan-lts.Need-returns-4 (firsts-plan-claims t) (firsts-plan-at t) firsts-plan.Post
-firsts-plan-returns-4 t c =
-    let g = at-reference _ _ _ _ _ (sym (c .before .before .before .before .before .before .before .before .before .before .before .before .before .before .stage-at .ensures) ∙ c .before .before .before .before .before .before .before .before .before .before .before .before .next .given .1) in
-    reference-firsts _ _ _ _ _ _ (g .0) _ _ _ _ _ _ (c .before .before .before .before .before .before .before .before .before .before .if1 .left) (c .before .before .before .before .before .before .before .before .before .word-at .ensures) (c .before .before .before .before .before .before .firsts-plan .ensures) (c .before .before .raise-firsts .ensures)
-
-firsts-plan-same-length-3 : (t : ℕ) → firsts-plan-lts.Need-same-length-3 (firsts-plan-claims t) (firsts-plan-at t) firsts-plan.Post
-firsts-plan-same-length-3 t c =
-    search needs
-
-firsts-plan-returns-5 : (t : ℕ) → firsts-plan-lts.Need-returns-5 (firsts-plan-claims t) (firsts-plan-at t) firsts-plan.Post
-firsts-plan-returns-5 t c =
-    let g = at-differences _ _ _ _ _ (sym (c .before .before .before .before .before .before .before .before .before .before .before .stage-at .ensures) ∙ c .before .before .before .before .before .before .before .before .before .next2 .given .1) in
-    differences-firsts _ _ _ _ _ _ _ _ _ _ _ (g .0) (c .before .before .before .before .before .before .firsts-plan2 .ensures) (c .before .before .sum-firsts .ensures)
-
-firsts-plan-same-length-4 : (t : ℕ) → firsts-plan-lts.Need-same-length-4 (firsts-plan-claims t) (firsts-plan-at t) firsts-plan.Post
-firsts-plan-same-length-4 t c =
-    search needs
-
-firsts-plan-returns-6 : (t : ℕ) → firsts-plan-lts.Need-returns-6 (firsts-plan-claims t) (firsts-plan-at t) firsts-plan.Post
-firsts-plan-returns-6 t c =
-    let g = at-runs _ _ _ _ _ (sym (c .before .before .before .before .before .before .before .stage-at .ensures) ∙ c .before .before .before .before .before .next3 .given .1) in
-    same-firsts _ _ _ _ _ _ _ _ _ (g .0) (c .before .before .firsts-runs .ensures)
-
-firsts-runs-header-of-requires : (t : ℕ) → firsts-runs-lts.Need-header-of-requires (firsts-runs-claims t) (firsts-runs-at t) firsts-runs.Post
-firsts-runs-header-of-requires t c κs =
-    search needs
-
-firsts-runs-enum-known-e : (t : ℕ) → firsts-runs-lts.Need-enum-known-e (firsts-runs-claims t) (firsts-runs-at t) firsts-runs.Post
-firsts-runs-enum-known-e t c =
-    search needs
-
-firsts-runs-ended-requires : (t : ℕ) → firsts-runs-lts.Need-ended-requires (firsts-runs-claims t) (firsts-runs-at t) firsts-runs.Post
-firsts-runs-ended-requires t c κs = search needs
-
-firsts-runs-enum-known-runs : (t : ℕ) → firsts-runs-lts.Need-enum-known-runs (firsts-runs-claims t) (firsts-runs-at t) firsts-runs.Post
-firsts-runs-enum-known-runs t c =
-    search needs
-
-firsts-runs-lesser-requires : (t : ℕ) → firsts-runs-lts.Need-lesser-requires (firsts-runs-claims t) (firsts-runs-at t) firsts-runs.Post
-firsts-runs-lesser-requires t c κs =
-    search needs
-
-firsts-runs-plan-end-requires : (t : ℕ) → firsts-runs-lts.Need-plan-end-requires (firsts-runs-claims t) (firsts-runs-at t) firsts-runs.Post
-firsts-runs-plan-end-requires t c κs =
-    search needs
-
-firsts-runs-add-behind : (t : ℕ) → firsts-runs-lts.Need-add-behind (firsts-runs-claims t) (firsts-runs-at t) firsts-runs.Post
-firsts-runs-add-behind t c =
-    record { fits = omega (arith, lengths-fit _ _ _ _ _ _ (c .before .before .before .before .before .before .before .before .before .before .pre .1)) }
-
-firsts-runs-add-firsts-plan : (t : ℕ) → firsts-runs-lts.Need-add-firsts-plan (firsts-runs-claims t) (firsts-runs-at t) firsts-runs.Post
-firsts-runs-add-firsts-plan t c =
-    record { fits = omega (arith, lengths-fit _ _ _ _ _ _ (c .before .before .before .before .before .before .before .before .before .before .pre .1)) }
-
-firsts-runs-sub-firsts-plan : (t : ℕ) → firsts-runs-lts.Need-sub-firsts-plan (firsts-runs-claims t) (firsts-runs-at t) firsts-runs.Post
-firsts-runs-sub-firsts-plan t c =
-    header-given _ _ _ _ (says-so headerSays (c .before .before .before .before .before .before .header-of .ensures) (c .before .before .before .before .runs .given .1)) .inside
-
-firsts-runs-part-firsts-plan-start : (t : ℕ) → firsts-runs-lts.Need-part-firsts-plan-start (firsts-runs-claims t) (firsts-runs-at t) firsts-runs.Post
-firsts-runs-part-firsts-plan-start t c =
-    header-given _ _ _ _ (says-so headerSays (c .before .before .before .before .before .before .header-of .ensures) (c .before .before .before .before .runs .given .1)) .inside
-
-firsts-runs-part-firsts-plan-end : (t : ℕ) → firsts-runs-lts.Need-part-firsts-plan-end (firsts-runs-claims t) (firsts-runs-at t) firsts-runs.Post
-firsts-runs-part-firsts-plan-end t c =
-    search needs
-
-firsts-runs-firsts-plan-requires : (t : ℕ) → firsts-runs-lts.Need-firsts-plan-requires (firsts-runs-claims t) (firsts-runs-at t) firsts-runs.Post
-firsts-runs-firsts-plan-requires t c κs =
-    let s = c .before .before .before .before .before .before .before .before .before .before .before .before in
-    let b = s .args .body .now in
-    let e = c .before .before .before .before .before .before .runs .given .0 .1 .0 .byte in
-    let t = header-given _ _ _ _ (says-so headerSays (c .before .before .before .before .before .before .before .before .header-of .ensures) (c .before .before .before .before .before .before .runs .given .1)) in
-    (omega (arith, s .pre .0), scope-lengths _ _ _ _ _ _ (s .pre .1) _ _ _ _ (part-short b e (length b - e)) refl (t .few) (c .before .before .before .before .lesser .ensures))
-
-firsts-runs-sub-firsts-plan-2 : (t : ℕ) → firsts-runs-lts.Need-sub-firsts-plan-2 (firsts-runs-claims t) (firsts-runs-at t) firsts-runs.Post
-firsts-runs-sub-firsts-plan-2 t c =
-    header-after _ _ _ _ (says-so headerSays (c .before .before .before .before .before .before .before .before .before .before .before .header-of .ensures) (c .before .before .before .before .before .before .before .before .before .runs .given .1))
-
-firsts-runs-part-firsts-plan-start-2 : (t : ℕ) → firsts-runs-lts.Need-part-firsts-plan-start-2 (firsts-runs-claims t) (firsts-runs-at t) firsts-runs.Post
-firsts-runs-part-firsts-plan-start-2 t c =
-    header-after _ _ _ _ (says-so headerSays (c .before .before .before .before .before .before .before .before .before .before .before .header-of .ensures) (c .before .before .before .before .before .before .before .before .before .runs .given .1))
-
-firsts-runs-part-firsts-plan-end-2 : (t : ℕ) → firsts-runs-lts.Need-part-firsts-plan-end-2 (firsts-runs-claims t) (firsts-runs-at t) firsts-runs.Post
-firsts-runs-part-firsts-plan-end-2 t c =
-    header-given _ _ _ _ (says-so headerSays (c .before .before .before .before .before .before .before .before .before .before .before .header-of .ensures) (c .before .before .before .before .before .before .before .before .before .runs .given .1)) .inside
-
-firsts-runs-firsts-plan-requires-2 : (t : ℕ) → firsts-runs-lts.Need-firsts-plan-requires-2 (firsts-runs-claims t) (firsts-runs-at t) firsts-runs.Post
-firsts-runs-firsts-plan-requires-2 t c κs =
-    let s = c .before .before .before .before .before .before .before .before .before .before .before .before .before .before .before .before .before in
-    let b = s .args .body .now in
-    let e = c .before .before .before .before .before .before .before .before .before .before .before .runs .given .0 .1 .0 .byte in
-    let t = header-given _ _ _ _ (says-so headerSays (c .before .before .before .before .before .before .before .before .before .before .before .before .before .header-of .ensures) (c .before .before .before .before .before .before .before .before .before .before .before .runs .given .1)) in
-    (omega (arith, s .pre .0), scope-values _ _ _ _ _ _ (s .pre .1) _ _ _ _ (part-short b 8 (e - 8)) (c .before .before .before .before .firsts-plan .kept .1 .1 .1 .1 .1 .1 .0) (t .few) (c .before .before .before .before .before .before .before .before .before .lesser .ensures))
-
-firsts-runs-spread-runs-requires : (t : ℕ) → firsts-runs-lts.Need-spread-runs-requires (firsts-runs-claims t) (firsts-runs-at t) firsts-runs.Post
-firsts-runs-spread-runs-requires t c κs =
-    let s = c .before .before .before .before .before .before .before .before .before .before .before .before .before .before .before .before .before .before .before .before .before in
-    let lengths = c .before .before .before .before .before .before .before .before .firsts-plan in
-    let values = c .before .before .before .firsts-plan2 in
-    let t = header-given _ _ _ _ (says-so headerSays (c .before .before .before .before .before .before .before .before .before .before .before .before .before .before .before .before .before .header-of .ensures) (c .before .before .before .before .before .before .before .before .before .before .before .before .before .before .before .runs .given .1)) in
-    runs-fit _ _ _ _ _ _ (s .pre .1) (values .last .1 .1 .1 .1 .1 .1 .0) _ _ _ (values .kept .1 .1 .1 .1 .1 .1 .0 ∙ lengths .kept .1 .1 .1 .1 .1 .1 .0) (t .few) (c .before .before .before .before .before .before .before .before .before .before .before .before .before .lesser .ensures) (lengths .ensures .most)
-
-firsts-runs-returns : (t : ℕ) → firsts-runs-lts.Need-returns (firsts-runs-claims t) (firsts-runs-at t) firsts-runs.Post
-firsts-runs-returns t c =
-    rw (c .ended .ensures) (runs-none _ _ _ _ _ refl _ _ _ _ _ _ (says-so headerSays (c .before .before .before .before .header-of .ensures) (c .before .before .e .given .1)))
-
-firsts-runs-same-length : (t : ℕ) → firsts-runs-lts.Need-same-length (firsts-runs-claims t) (firsts-runs-at t) firsts-runs.Post
-firsts-runs-same-length t c =
-    search needs
-
-firsts-runs-returns-2 : (t : ℕ) → firsts-runs-lts.Need-returns-2 (firsts-runs-claims t) (firsts-runs-at t) firsts-runs.Post
-firsts-runs-returns-2 t c =
-    runs-firsts _ _ _ _ _ (c .before .before .before .before .before .before .before .before .before .before .before .before .before .before .before .plan-end .ensures) _ _ _ _ _ _ _ _ _ _ _ _ _ _ (says-so headerSays (c .before .before .before .before .before .before .before .before .before .before .before .before .before .before .before .before .before .before .before .before .header-of .ensures) (c .before .before .before .before .before .before .before .before .before .before .before .before .before .before .before .before .before .before .runs .given .1)) (c .before .before .before .before .before .before .before .before .before .before .before .before .before .before .before .before .lesser .ensures)
-    (c .before .before .before .before .before .before .before .before .before .before .before .firsts-plan .ensures) (c .before .before .before .before .before .before .firsts-plan2 .ensures) (c .before .before .spread-runs .ensures)
+  firsts-runs-returns-2 : In-runs runs.Need-returns-2
+  unfolding start-of
+  firsts-runs-returns-2 c =
+      let done : In-runs runs.After-spread-runs = search in
+      let lengths : In-runs runs.After-firsts-plan2 = search in
+      let values : In-runs runs.After-firsts-plan = search in
+      let second : In-runs runs.After-plan-end = search in
+      let few : In-runs runs.After-lesser = search in
+      let arm : In-runs runs.After-runs = search in
+      let head = header arm in
+      let start = start-of arm in
+      runs-firsts _ _ _ _ _ _ _ _ _ _ (second .plan-end .ensures) _ _ _ _ _ _ head (few .lesser .ensures) (values .firsts-plan .ensures)
+      (lengths .firsts-plan2 .ensures)
+      (done .spread-runs .ensures)
 
 pub +firsts-plan+firsts-runs-spec : {M : Type 1} → statement M
-+firsts-plan+firsts-runs-spec = close μ-firsts-plan μ-firsts-runs (λ t. firsts-plan-lts.spec (firsts-plan-claims t) (firsts-plan-at t)
-    firsts-plan.Post
-    (firsts-plan-stage-at-requires t)
-    (firsts-plan-enum-told t)
-    (firsts-plan-ended-requires t)
-    (firsts-plan-enum-known-code t)
+unfolding start-of
++firsts-plan+firsts-runs-spec =
+    close μ-firsts-plan μ-firsts-runs
+    (λ t. plan.spec (firsts-plan-claims t) (firsts-plan-at t) firsts-plan.Post
+    (λ c κs. search needs)  -- stage-at-requires
+    (λ c. search needs)  -- enum-told
+    (λ c κs. search needs)  -- ended-requires
+    (λ c. search needs)  -- enum-known-code
     (firsts-plan-firsts-code-requires t)
-    (firsts-plan-enum-known-next t)
-    (firsts-plan-ended-requires-2 t)
+    (λ c. search needs)  -- enum-known-next
+    (λ c κs. search needs)  -- ended-requires-2
     (firsts-plan-returns t)
-    (firsts-plan-word-at-requires t)
-    (firsts-plan-sub-firsts-plan t)
-    (firsts-plan-part-firsts-plan-start t)
-    (firsts-plan-part-firsts-plan-end t)
+    (λ c κs. search needs)  -- word-at-requires
+    (λ c. search needs)  -- sub-firsts-plan
+    (λ c. search needs)  -- part-firsts-plan-start
+    (λ c. search needs)  -- part-firsts-plan-end
     (firsts-plan-firsts-plan-requires t)
     (firsts-plan-raise-firsts-requires t)
-    (firsts-plan-enum-known-next-2 t)
+    (λ c κs. search needs)  -- cut-at-requires
+    (λ c. search needs)  -- enum-known-next-2
     (firsts-plan-firsts-plan-requires-2 t)
     (firsts-plan-sum-firsts-requires t)
-    (firsts-plan-enum-known-next-3 t)
+    (λ c κs. search needs)  -- cut-at-requires-2
+    (λ c. search needs)  -- enum-known-next-3
     (firsts-plan-firsts-runs-requires t)
     (firsts-plan-returns-2 t)
-    (firsts-plan-same-length t)
+    (λ c. search needs)  -- same-length
     (firsts-plan-returns-3 t)
-    (firsts-plan-same-length-2 t)
+    (λ c. search needs)  -- same-length-2
     (firsts-plan-returns-4 t)
-    (firsts-plan-same-length-3 t)
+    (λ c. search needs)  -- same-length-3
     (firsts-plan-returns-5 t)
-    (firsts-plan-same-length-4 t)
+    (λ c. search needs)  -- same-length-4
     (firsts-plan-returns-6 t))
-    λ t. firsts-runs-lts.spec (firsts-runs-claims t) (firsts-runs-at t)
-    firsts-runs.Post
-    (firsts-runs-header-of-requires t)
-    (firsts-runs-enum-known-e t)
-    (firsts-runs-ended-requires t)
-    (firsts-runs-enum-known-runs t)
-    (firsts-runs-lesser-requires t)
-    (firsts-runs-plan-end-requires t)
-    (firsts-runs-add-behind t)
-    (firsts-runs-add-firsts-plan t)
-    (firsts-runs-sub-firsts-plan t)
-    (firsts-runs-part-firsts-plan-start t)
-    (firsts-runs-part-firsts-plan-end t)
+    (λ t. runs.spec (firsts-runs-claims t) (firsts-runs-at t) firsts-runs.Post
+    (λ c κs. search needs)  -- header-of-requires
+    (λ c. search needs)  -- enum-known-e
+    (λ c κs. search needs)  -- ended-requires
+    (λ c. search needs)  -- enum-known-runs
+    (λ c. let start : In-runs t runs.Start = search in record { fits = omega (arith, fits-spread (start .pre .1 .0)) })  -- add-firsts-plan
+    (λ c. let start : In-runs t runs.Start = search in record { fits = omega (arith, fits-spread (start .pre .1 .0)) })  -- mul-firsts-plan
+    (λ c. let start : In-runs t runs.Start = search in record { fits = omega (arith, fits-spread (start .pre .1 .0)) })  -- add-firsts-plan-2
+    (λ c κs. search needs)  -- lesser-requires
+    (λ c κs. search needs)  -- plan-end-requires
+    (λ c. header t (search) .after)  -- sub-firsts-plan
+    (λ c. header t (search) .after)  -- part-firsts-plan-start
+    (λ c. header t (search) .inside)  -- part-firsts-plan-end
     (firsts-runs-firsts-plan-requires t)
-    (firsts-runs-sub-firsts-plan-2 t)
-    (firsts-runs-part-firsts-plan-start-2 t)
-    (firsts-runs-part-firsts-plan-end-2 t)
+    (λ c. header t (search) .inside)  -- sub-firsts-plan-2
+    (λ c. header t (search) .inside)  -- part-firsts-plan-start-2
+    (λ c. search needs)  -- part-firsts-plan-end-2
     (firsts-runs-firsts-plan-requires-2 t)
     (firsts-runs-spread-runs-requires t)
     (firsts-runs-returns t)
-    (firsts-runs-same-length t)
-    (firsts-runs-returns-2 t)
+    (λ c. search needs)  -- same-length
+    (firsts-runs-returns-2 t))

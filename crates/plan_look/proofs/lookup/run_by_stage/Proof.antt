@@ -1,42 +1,34 @@
 -- `run_by_stage`: lengths collected once, then sought. Assumes nothing.
-use mathlib.Core.Path.{refl}
+use mathlib.Core.Path.{refl, _∙_}
+use native.Mathlib.Omega.{arith}
+use Rattle.plan_look.proofs.Lookups.{look-fits, run-sought}
 use borrow.Author.Needs.{needs}
-use Rattle.plan_look.proofs.Lookups.{run-scope, run-sought}
 use Rattle.plan_look.proofs.lookup.run_by_stage.Statement.{statement}
 use Rattle.plan_look.proofs.lookup.run_by_stage.Tie as tie
 
-add-lesser : tie.Need-add-lesser
-add-lesser c = search needs
-
-lesser-requires : tie.Need-lesser-requires
-lesser-requires c κs = search needs
-
-slice-aggregate-firsts-plan : tie.Need-slice-aggregate-firsts-plan
-slice-aggregate-firsts-plan c = search needs
-
 firsts-plan-requires : tie.Need-firsts-plan-requires
 firsts-plan-requires c κs =
-    let s = c .before .before .before .before .before in
-    run-scope _ _ _ (s .pre .0) _ _ (s .pre .1) (c .before .lesser .ensures) _ _ (s .pre .2) refl
-
-slice-aggregate-seek-run : tie.Need-slice-aggregate-seek-run
-slice-aggregate-seek-run c = search needs
-
-seek-run-requires : tie.Need-seek-run-requires
-seek-run-requires c κs = search needs
+    let few : tie.After-lesser = search in
+    let start : tie.Start = search in
+    (look-fits (start .pre .0) (start .pre .2) (start .pre .1) refl, omega (arith, few .lesser .ensures))
 
 returns : tie.Need-returns
 returns c =
-    run-sought _ _ _ _ _ _ _ _ _ (c .before .before .before .before .before .lesser .ensures) (c .before .before .before .firsts-plan .ensures) (c .seek-run .ensures)
+    let told : tie.After-run-of = search in
+    let sought : tie.After-seek-in = search in
+    let got : tie.After-firsts-plan = search in
+    let few : tie.After-lesser = search in
+    told .run-of .ensures ∙ run-sought _ _ _ _ _ _ _ _ (few .lesser .ensures) (got .firsts-plan .ensures) _ (sought .seek-in .ensures)
 
 pub run-by-stage-spec : {M : Type 1} → statement M
 run-by-stage-spec =
     tie.close
     (tie.spec
-    add-lesser
-    lesser-requires
-    slice-aggregate-firsts-plan
+    (λ c. search needs)  -- add-lesser
+    (λ c κs. search needs)  -- lesser-requires
+    (λ c. search needs)  -- slice-aggregate-firsts-plan
     firsts-plan-requires
-    slice-aggregate-seek-run
-    seek-run-requires
+    (λ c. search needs)  -- slice-aggregate-seek-in
+    (λ c κs. search needs)  -- seek-in-requires
+    (λ c κs. search needs)  -- run-of-requires
     returns)

@@ -1,38 +1,41 @@
 -- `total_stage`: the numbers collected once, then added up. Assumes nothing.
-use mathlib.Core.Path.{refl, sym}
+use mathlib.Core.Path.{refl}
+use native.Mathlib.Omega.{arith}
+use Rattle.plan_look.proofs.Lookups.{look-fits}
+use Rattle.plan_look.proofs.Turns.{total-fewer, total-whole}
 use borrow.Author.Needs.{needs}
-use Rattle.plan_look.proofs.Lookups.{sum-scope}
 use Rattle.plan_look.proofs.lookup.total_stage.Statement.{statement}
 use Rattle.plan_look.proofs.lookup.total_stage.Tie as tie
 
-add-k : tie.Need-add-k
-add-k c = search needs
-
-slice-aggregate-firsts-plan : tie.Need-slice-aggregate-firsts-plan
-slice-aggregate-firsts-plan c = search needs
-
 firsts-plan-requires : tie.Need-firsts-plan-requires
 firsts-plan-requires c κs =
-    let s = c .before .before .before .before in
-    sum-scope _ _ _ (s .pre .0) _ _ (s .pre .1) refl
-
-slice-aggregate-total-firsts : tie.Need-slice-aggregate-total-firsts
-slice-aggregate-total-firsts c = search needs
-
-total-firsts-requires : tie.Need-total-firsts-requires
-total-firsts-requires c κs = search needs
+    let start : tie.Start = search in
+    (look-fits (start .pre .0) (start .pre .1) (omega arith) refl, omega (arith, start .pre .0 .inside))
 
 returns : tie.Need-returns
 returns c =
-    sym (c .total-firsts .ensures _ _ (c .before .before .before .firsts-plan .ensures))
+    let got : tie.After-firsts-plan = search in
+    let start : tie.Start = search in
+    total-fewer (got .firsts-plan .ensures) (c .if1 .taken)
+    (omega (arith, got .firsts-plan .kept .1 .1 .1 .1 .1 .1 .0, got .firsts-plan .ensures .most, start .pre .0 .inside, start .pre .0 .few))
+
+returns-2 : tie.Need-returns-2
+returns-2 c =
+    let sum : tie.After-total-of = search in
+    let all : tie.Else1 = search in
+    let got : tie.After-firsts-plan = search in
+    let start : tie.Start = search in
+    total-whole (got .firsts-plan .ensures) (all .if1 .left)
+    (omega (arith, got .firsts-plan .kept .1 .1 .1 .1 .1 .1 .0, start .pre .0 .inside, start .pre .0 .few)) _ (sum .total-of .ensures .0)
 
 pub total-stage-spec : {M : Type 1} → statement M
 total-stage-spec =
     tie.close
     (tie.spec
-    add-k
-    slice-aggregate-firsts-plan
+    (λ c. search needs)  -- add-k
+    (λ c. search needs)  -- slice-aggregate-firsts-plan
     firsts-plan-requires
-    slice-aggregate-total-firsts
-    total-firsts-requires
-    returns)
+    returns
+    (λ c. search needs)  -- slice-aggregate-total-of
+    (λ c κs. search needs)  -- total-of-requires
+    returns-2)

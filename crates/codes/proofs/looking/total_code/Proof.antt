@@ -1,0 +1,246 @@
+-- `passed` numbers have been passed and added up, none of them at the place. Assumes nothing.
+use borrow.Author.Needs.{needs}
+use Prim.Native.Nat.{ℕ, _+_, _-_, _*_, _^_, _≤_, _<_}
+use mathlib.Core.Path.{_≡_, refl, sym, ap, _∙_}
+use native.Mathlib.Omega.{arith}
+use lib.ListN.{length}
+use Rattle.meaning.specs.Answer.{given, refused}
+use Rattle.meaning.specs.Codes.{codeOf, lookCode}
+use Rattle.meaning.specs.Limits.{mostNumbers, unitPlaces}
+use Rattle.meaning.specs.Stages.{total}
+use Rattle.codes.proofs.Lookings.{Looking, looking-start, start-refuses, refuses, passes, looking-on}
+use Rattle.codes.proofs.Stretches.{goes-on, passed-long}
+use Rattle.codes.proofs.Totals.{total-none, total-refused, total-went, total-found}
+use Rattle.codes.proofs.looking.total_code.Statement.{statement}
+use Rattle.codes.proofs.looking.total_code.Tie as tie
+
+abbrev Inv-loop : tie.InvT-loop
+Inv-loop code body n goal most numbers₀ start at₀ passed₀ s₀ numbers at passed s =
+    Looking code body n passed at × (passed ≤ goal) × (goal < n) × (n ≤ mostNumbers) × (length numbers ≡ 128) × (1 ≤ most) × (most ≤ unitPlaces)
+    × (total (lookCode (codeOf code) body n) passed ≡ given s) × (s ≤ passed * 2 ^ 32)
+
+abbrev μ-loop : tie.MeasureT-loop
+μ-loop code body n goal most numbers₀ start at₀ passed₀ s₀ numbers at passed s = n - passed
+
+-- a point of the program, found by its type
+abbrev At : (tie.InvT-loop → tie.MeasureT-loop → Type 0) → Type 0
+At point = point Inv-loop μ-loop
+
+start-at-requires : tie.Need-start-at-requires Inv-loop μ-loop
+start-at-requires c κs = search needs
+
+enum-known-started : tie.Need-enum-known-started Inv-loop μ-loop
+enum-known-started c = search needs
+
+enum-told : tie.Need-enum-told Inv-loop μ-loop
+enum-told c = search needs
+
+start-refusal-requires : tie.Need-start-refusal-requires Inv-loop μ-loop
+start-refusal-requires c κs = search needs
+
+returns : tie.Need-returns Inv-loop μ-loop
+returns c =
+    let told : At tie.After-enum-told = search in
+    let started : At tie.After-start-at = search in
+    let start : At tie.Start = search in
+    let a = start .args in
+    let at = lookCode (codeOf (a .code)) (a .body .now) (a .n) in
+    ap (λ (e : ℕ). refused e) (c .start-refusal .ensures)
+    ∙ sym (total-refused at 0 (a .place .number + 1) 0 _ (omega arith) (total-none at)
+    (start-refuses (a .code) (a .body .now) (a .n) (started .start-at .ensures) (told .enum-told .given .1) 0))
+
+loop-holds : tie.Need-loop-holds Inv-loop μ-loop
+loop-holds c =
+    let wide : At tie.After-unit-most = search in
+    let told : At tie.After-started = search in
+    let started : At tie.After-start-at = search in
+    let known : At tie.After-shared-slice-known = search in
+    let start : At tie.Start = search in
+    let a = start .args in (
+      looking-start (a .code) (a .body .now) (a .n) (started .start-at .ensures) (λ i. known .shared-slice-known .given i .fits) (start .pre .short)
+          (told .started .given .1),
+      omega arith,
+      start .pre .inside,
+      start .pre .few,
+      search needs,
+      wide .unit-most .ensures .0,
+      wide .unit-most .ensures .1,
+      total-none (lookCode (codeOf (a .code)) (a .body .now) (a .n)),
+      omega arith,
+    )
+
+sub-here : tie.Need-sub-here Inv-loop μ-loop
+sub-here c = search needs
+
+add-lesser : tie.Need-add-lesser Inv-loop μ-loop
+add-lesser c =
+    let turn : At tie.At-loop = search in
+    omega (arith, turn .loop .inv)
+
+lesser-requires : tie.Need-lesser-requires Inv-loop μ-loop
+lesser-requires c κs = search needs
+
+sub-stretch : tie.Need-sub-stretch Inv-loop μ-loop
+sub-stretch c = search needs
+
+slice-aggregate-stretch : tie.Need-slice-aggregate-stretch Inv-loop μ-loop
+slice-aggregate-stretch c = search needs
+
+stretch-requires : tie.Need-stretch-requires Inv-loop μ-loop
+stretch-requires c κs =
+    let least : At tie.After-lesser = search in
+    let turn : At tie.At-loop = search in
+    let (l, most, inside, few, long, one, eight, sum, low) = turn .loop .inv in
+    (record { inside = omega (arith, least .lesser .ensures, long); short = l .short }, omega arith)
+
+enum-known-went : tie.Need-enum-known-went Inv-loop μ-loop
+enum-known-went c = search needs
+
+enum-told-2 : tie.Need-enum-told-2 Inv-loop μ-loop
+enum-told-2 c = search needs
+
+went-refusal-requires : tie.Need-went-refusal-requires Inv-loop μ-loop
+went-refusal-requires c κs = search needs
+
+returns-2 : tie.Need-returns-2 Inv-loop μ-loop
+returns-2 c =
+    let told : At tie.After-enum-told2 = search in
+    let went : At tie.After-stretch = search in
+    let turn : At tie.At-loop = search in
+    let (l, most, inside, few, long, one, eight, sum, low) = turn .loop .inv in
+    ap (λ (e : ℕ). refused e) (c .went-refusal .ensures)
+    ∙ sym (total-refused _ _ _ _ _ (omega arith) sum (refuses l (went .stretch .ensures) (told .enum-told2 .given .1) _ (omega arith) (omega arith)))
+
+slice-aggregate-total-of : tie.Need-slice-aggregate-total-of Inv-loop μ-loop
+slice-aggregate-total-of c = search needs
+
+add-total-of : tie.Need-add-total-of Inv-loop μ-loop
+add-total-of c = search needs
+
+total-of-requires : tie.Need-total-of-requires Inv-loop μ-loop
+total-of-requires c κs =
+    let here : At tie.Then1 = search in
+    let told : At tie.After-went = search in
+    let went : At tie.After-stretch = search in
+    let least : At tie.After-lesser = search in
+    let turn : At tie.At-loop = search in
+    let (l, most, inside, few, long, one, eight, sum, low) = turn .loop .inv in
+    let g = goes-on (went .stretch .ensures) (told .went .given .1) in
+    (omega arith, omega (arith, passed-long g, g .few, least .lesser .ensures, here .if1 .taken))
+
+add-through : tie.Need-add-through Inv-loop μ-loop
+add-through c =
+    let turn : At tie.At-loop = search in
+    let (l, most, inside, few, long, one, eight, sum, low) = turn .loop .inv in
+    omega (arith, low, c .total-of .ensures .1)
+
+returns-3 : tie.Need-returns-3 Inv-loop μ-loop
+returns-3 c =
+    let here : At tie.Then1 = search in
+    let told : At tie.After-went = search in
+    let went : At tie.After-stretch = search in
+    let least : At tie.After-lesser = search in
+    let turn : At tie.At-loop = search in
+    let (l, most, inside, few, long, one, eight, sum, low) = turn .loop .inv in
+    let g = goes-on (went .stretch .ensures) (told .went .given .1) in
+    ap (λ (x : ℕ). given (turn .loop .s + x)) (c .total-of .ensures .0)
+    ∙ total-found l g (omega (arith, least .lesser .ensures, long)) sum _ most (here .if1 .taken)
+    (omega (arith, g .few, least .lesser .ensures, here .if1 .taken))
+
+slice-aggregate-total-of-2 : tie.Need-slice-aggregate-total-of-2 Inv-loop μ-loop
+slice-aggregate-total-of-2 c = search needs
+
+total-of-requires-2 : tie.Need-total-of-requires-2 Inv-loop μ-loop
+total-of-requires-2 c κs =
+    let past : At tie.Else1 = search in
+    let told : At tie.After-went = search in
+    let went : At tie.After-stretch = search in
+    let least : At tie.After-lesser = search in
+    let turn : At tie.At-loop = search in
+    let (l, most, inside, few, long, one, eight, sum, low) = turn .loop .inv in
+    let g = goes-on (went .stretch .ensures) (told .went .given .1) in
+    (omega (arith, passes l g (omega arith)), omega (arith, passed-long g, g .few, least .lesser .ensures, past .if1 .left))
+
+add-s : tie.Need-add-s Inv-loop μ-loop
+add-s c =
+    let told : At tie.After-went = search in
+    let went : At tie.After-stretch = search in
+    let turn : At tie.At-loop = search in
+    let (l, most, inside, few, long, one, eight, sum, low) = turn .loop .inv in
+    let g = goes-on (went .stretch .ensures) (told .went .given .1) in
+    omega (arith, low, c .total-of2 .ensures .1, passes l g (omega arith))
+
+add-passed : tie.Need-add-passed Inv-loop μ-loop
+add-passed c =
+    let told : At tie.After-went = search in
+    let went : At tie.After-stretch = search in
+    let turn : At tie.At-loop = search in
+    let (l, most, inside, few, long, one, eight, sum, low) = turn .loop .inv in
+    let g = goes-on (went .stretch .ensures) (told .went .given .1) in
+    omega (arith, passes l g (omega arith))
+
+loop-less : tie.Need-loop-less Inv-loop μ-loop
+loop-less c =
+    let told : At tie.After-went = search in
+    let went : At tie.After-stretch = search in
+    let turn : At tie.At-loop = search in
+    let (l, most, inside, few, long, one, eight, sum, low) = turn .loop .inv in
+    let g = goes-on (went .stretch .ensures) (told .went .given .1) in
+    omega (arith, passes l g (omega arith), g .some)
+
+loop-again : tie.Need-loop-again Inv-loop μ-loop
+loop-again c =
+    let added : At tie.After-total-of2 = search in
+    let past : At tie.Else1 = search in
+    let told : At tie.After-went = search in
+    let went : At tie.After-stretch = search in
+    let least : At tie.After-lesser = search in
+    let turn : At tie.At-loop = search in
+    let (l, most, inside, few, long, one, eight, sum, low) = turn .loop .inv in
+    let g = goes-on (went .stretch .ensures) (told .went .given .1) in (
+      looking-on l g,
+      omega (arith, past .if1 .left),
+      inside,
+      few,
+      passed-long g ∙ long,
+      one,
+      eight,
+      total-went l g (omega (arith, least .lesser .ensures, long)) sum _ (omega arith) (omega (arith, g .few, least .lesser .ensures, past .if1 .left))
+          ∙ ap (λ (x : ℕ). given (turn .loop .s + x)) (sym (added .total-of2 .ensures .0)),
+      omega (arith, low, added .total-of2 .ensures .1),
+    )
+
+pub total-code-spec : {M : Type 1} → statement M
+total-code-spec =
+    tie.close
+    (tie.spec
+    Inv-loop
+    μ-loop
+    start-at-requires
+    enum-known-started
+    enum-told
+    start-refusal-requires
+    returns
+    (λ c κs. search needs)  -- unit-most-requires
+    loop-holds
+    sub-here
+    add-lesser
+    lesser-requires
+    sub-stretch
+    slice-aggregate-stretch
+    stretch-requires
+    enum-known-went
+    enum-told-2
+    went-refusal-requires
+    returns-2
+    slice-aggregate-total-of
+    add-total-of
+    total-of-requires
+    add-through
+    returns-3
+    slice-aggregate-total-of-2
+    total-of-requires-2
+    add-s
+    add-passed
+    loop-less
+    loop-again)

@@ -1,0 +1,128 @@
+-- `quick_delta` meets its contract. Assumes nothing.
+use mathlib.Core.Path.{sym}
+use native.Mathlib.Omega.{arith}
+use borrow.Author.Needs.{needs}
+use lib.Count.{leadingZeros, leading-le}
+use lib.ListN.{drop}
+use Rattle.meaning.specs.Bits.{bitsOf}
+use Rattle.meaning.specs.Limits.{fault}
+use Rattle.elias.specs.Seen.{Seen}
+use Rattle.elias.proofs.Looks.{length-large, length-some, delta-fits, delta-inside}
+use Rattle.elias.proofs.Seen.{seen-many, delta-refused}
+use Rattle.elias.proofs.inside.quick_delta.Statement.{statement}
+use Rattle.elias.proofs.inside.quick_delta.Tie as tie
+
+-- what was seen
+start-of : tie.Else2 → tie.Start
+start-of c = search
+
+looked-of : tie.Else2 → tie.After-peek-inside
+looked-of c = search
+
+seen : (c : tie.Else2) → let s = looked-of c .peek-inside .result in Seen 8 5 (start-of c .args .body .now) (start-of c .args .p) s (leadingZeros 64 s)
+unfolding start-of looked-of
+seen c = search needs
+
+add-if1 : tie.Need-add-if1
+add-if1 c = search needs
+
+word-at-requires : tie.Need-word-at-requires
+word-at-requires c κs = search needs
+
+returns : tie.Need-returns
+returns c = c .word-at .ensures
+
+peek-inside-requires : tie.Need-peek-inside-requires
+peek-inside-requires c κs = search needs
+
+cast-z : tie.Need-cast-z
+cast-z c = omega (arith, leading-le 64 (c .peek-inside .result))
+
+returns-2 : tie.Need-returns-2
+returns-2 c =
+    let looked : tie.After-peek-inside = search in
+    let start : tie.Start = search in
+    let l = drop (start .args .p) (bitsOf (start .args .body .now)) in
+    delta-refused l fault
+    (sym (seen-many (looked .peek-inside .result) l (omega (arith, looked .peek-inside .ok)) (looked .peek-inside .ensures) 5 33 (omega arith) (c .if2 .taken)))
+
+mul-size : tie.Need-mul-size
+mul-size c = search needs
+
+add-size : tie.Need-add-size
+add-size c = search needs
+
+top-requires : tie.Need-top-requires
+top-requires c κs = search needs
+
+returns-3 : tie.Need-returns-3
+unfolding start-of looked-of
+returns-3 c =
+    let long : tie.After-top = search in
+    let few : tie.Else2 = search in
+    length-large (seen few) (long .top .ensures) (c .if3 .taken)
+
+sub-rest : tie.Need-sub-rest
+unfolding start-of looked-of
+sub-rest c =
+    let long : tie.After-top = search in
+    let few : tie.Else2 = search in
+    length-some (seen few) (long .top .ensures) (omega arith)
+
+shl-v : tie.Need-shl-v
+shl-v c = search needs
+
+shl-top : tie.Need-shl-top
+shl-top c = search needs
+
+top-requires-2 : tie.Need-top-requires-2
+top-requires-2 c κs = search needs
+
+add-v : tie.Need-add-v
+unfolding start-of looked-of
+add-v c =
+    let long : tie.After-top = search in
+    let few : tie.Else2 = search in
+    record { fits = delta-fits (seen few) (long .top .ensures) (omega arith) (c .top2 .ensures) }
+
+returns-4 : tie.Need-returns-4
+unfolding start-of looked-of
+returns-4 c =
+    let rest : tie.After-top2 = search in
+    let long : tie.After-top = search in
+    let few : tie.Else2 = search in
+    delta-inside (seen few) (long .top .ensures) (omega arith) (rest .top2 .ensures) .large (c .if4 .taken)
+
+add-whole : tie.Need-add-whole
+add-whole c = search needs
+
+returns-5 : tie.Need-returns-5
+unfolding start-of looked-of
+returns-5 c =
+    let rest : tie.After-top2 = search in
+    let long : tie.After-top = search in
+    let few : tie.Else2 = search in
+    delta-inside (seen few) (long .top .ensures) (omega arith) (rest .top2 .ensures) .told (c .if4 .left)
+
+pub quick-delta-spec : {M : Type 1} → statement M
+quick-delta-spec =
+    tie.close
+    (tie.spec
+    add-if1
+    word-at-requires
+    returns
+    peek-inside-requires
+    cast-z
+    returns-2
+    mul-size
+    add-size
+    top-requires
+    returns-3
+    sub-rest
+    shl-v
+    shl-top
+    top-requires-2
+    add-v
+    returns-4
+    add-whole
+    returns-5)

@@ -1,0 +1,27 @@
+-- `has_block` compares the offset with the last that has 8 bytes behind it. Assumes nothing.
+use Prim.Native.Nat.{_+_, _-_}
+use native.Mathlib.Omega.{arith}
+use lib.ListN.{length}
+use borrow.Author.Needs.{needs}
+use borrow.Author.Tests.{le-leb, lt-leb, lt-ltb, le-ltb}
+use Rattle.meaning.proofs.Tests.{by-order}
+use Rattle.g8iu.proofs.taking.has_block.Statement.{statement}
+use Rattle.g8iu.proofs.taking.has_block.Tie as tie
+
+lesser-requires : tie.Need-lesser-requires
+lesser-requires c κs = search needs
+
+sub-result : tie.Need-sub-result
+sub-result c = search needs
+
+returns : tie.Need-returns
+returns c =
+    let start : tie.Start = search in
+    let at = start .args .at in
+    let len = length (start .args .body .now) in
+    by-order len (at + 9)
+    (λ h. rw (lt-leb (at + 9) len h) (le-ltb at (len - c .lesser .result) (omega arith)))
+    (λ h. rw (le-leb (at + 9) len h) (lt-ltb at (len - c .lesser .result) (omega arith)))
+
+pub has-block-spec : {M : Type 1} → statement M
+has-block-spec = tie.close (tie.spec lesser-requires sub-result returns)

@@ -1,0 +1,157 @@
+-- A whole group that was taken is one turn (`TakesWhole`); at anything else the loop stops. Assumes nothing.
+use Prim.Native.Nat.{_-_}
+use mathlib.Core.Path.{refl}
+use native.Mathlib.Omega.{arith}
+use Rattle.meaning.specs.Codes.{codeGroups}
+use Rattle.meaning.specs.Positions.{atByte}
+use Rattle.groups.specs.Whole.{largestNumbers, leastNumbers}
+use Rattle.groups.proofs.Taking.{TakesWhole, groups-by, whole-start, whole-stop, takes-whole, whole-end}
+use borrow.Author.Needs.{needs}
+use Rattle.groups.proofs.whole.take_groups.Statement.{statement}
+use Rattle.groups.proofs.whole.take_groups.Tie as tie
+
+abbrev Inv-loop : tie.InvT-loop
+Inv-loop body left at work₀ room first largest least plain limit₀ units₀ to₀ work limit units to =
+    TakesWhole codeGroups body left at room first work₀ work limit units (atByte to)
+
+abbrev μ-loop : tie.MeasureT-loop
+μ-loop body left at work₀ room first largest least plain limit₀ units₀ to₀ work limit units to =
+    limit - units
+
+-- a point of the program: `let turn : At tie.In-loop = search in` finds, by its type, the one that c came by
+abbrev At : (tie.InvT-loop → tie.MeasureT-loop → Type 0) → Type 0
+At point = point Inv-loop μ-loop
+
+bytes-from-requires : tie.Need-bytes-from-requires Inv-loop μ-loop
+bytes-from-requires c κs = search needs
+
+lesser-requires : tie.Need-lesser-requires Inv-loop μ-loop
+lesser-requires c κs = search needs
+
+loop-holds : tie.Need-loop-holds Inv-loop μ-loop
+loop-holds c =
+    let start : At tie.Start = search in
+    let most : At tie.After-lesser = search in
+    whole-start groups-by refl (most .lesser .ensures) (start .pre .inside) (λ k. refl)
+
+loop-less : tie.Need-loop-less Inv-loop μ-loop
+loop-less c = omega arith
+
+loop-again : tie.Need-loop-again Inv-loop μ-loop
+loop-again c =
+    let turn : At tie.In-loop = search in
+    whole-stop groups-by (turn .before .loop .inv) refl
+
+shared-slice-read-wide : tie.Need-shared-slice-read-wide Inv-loop μ-loop
+shared-slice-read-wide c =
+    let measured : At tie.After-bytes-from = search in
+    omega arith
+
+wide-requires : tie.Need-wide-requires Inv-loop μ-loop
+wide-requires c κs = search needs
+
+cast-c : tie.Need-cast-c Inv-loop μ-loop
+cast-c c = search needs
+
+add-take-whole : tie.Need-add-take-whole Inv-loop μ-loop
+add-take-whole c =
+    let measured : At tie.After-bytes-from = search in
+    omega arith
+
+mul-take-whole : tie.Need-mul-take-whole Inv-loop μ-loop
+mul-take-whole c =
+    let turn : At tie.In-loop = search in
+    omega arith
+
+add-take-whole-2 : tie.Need-add-take-whole-2 Inv-loop μ-loop
+add-take-whole-2 c =
+    let turn : At tie.In-loop = search in
+    omega arith
+
+take-whole-requires : tie.Need-take-whole-requires Inv-loop μ-loop
+unfolding largestNumbers leastNumbers
+take-whole-requires c κs =
+    let byte : At tie.After-wide = search in
+    let turn : At tie.In-loop = search in
+    let measured : At tie.After-bytes-from = search in
+    record {
+      byte = byte .wide .ensures .1;
+      there = omega arith;
+      inside = omega (arith, turn .before .loop .inv);
+      largest-is = refl;
+      least-is = refl;
+    }
+
+loop-less-2 : tie.Need-loop-less-2 Inv-loop μ-loop
+loop-less-2 c =
+    let turn : At tie.In-loop = search in
+    omega arith
+
+loop-again-2 : tie.Need-loop-again-2 Inv-loop μ-loop
+loop-again-2 c =
+    let group : At tie.After-take-whole = search in
+    let turn : At tie.In-loop = search in
+    whole-stop groups-by (turn .before .loop .inv) (group .take-whole .ensures .left (c .if2 .taken))
+
+add-units : tie.Need-add-units Inv-loop μ-loop
+add-units c =
+    let turn : At tie.In-loop = search in
+    omega arith
+
+loop-less-3 : tie.Need-loop-less-3 Inv-loop μ-loop
+loop-less-3 c =
+    let turn : At tie.In-loop = search in
+    omega arith
+
+loop-again-3 : tie.Need-loop-again-3 Inv-loop μ-loop
+loop-again-3 c =
+    let group : At tie.After-take-whole = search in
+    let byte : At tie.After-wide = search in
+    let turn : At tie.In-loop = search in
+    let measured : At tie.After-bytes-from = search in
+    takes-whole groups-by (turn .before .loop .inv) (turn .loop-test .taken) (omega arith) (byte .wide .ensures .0)
+    (group .take-whole .ensures .taken (c .if2 .left))
+
+mul-taken : tie.Need-mul-taken Inv-loop μ-loop
+mul-taken c = omega arith
+
+taken-requires : tie.Need-taken-requires Inv-loop μ-loop
+taken-requires c κs = search needs
+
+same-length : tie.Need-same-length Inv-loop μ-loop
+same-length c =
+    let done : At tie.At-loop = search in
+    done .loop .inv .long
+
+returns : tie.Need-returns Inv-loop μ-loop
+returns c =
+    let done : At tie.At-loop = search in
+    whole-end groups-by (done .loop .inv) (c .taken .ensures)
+
+pub take-groups-spec : {M : Type 1} → statement M
+take-groups-spec =
+    tie.close
+    (tie.spec
+    Inv-loop
+    μ-loop
+    bytes-from-requires
+    lesser-requires
+    loop-holds
+    loop-less
+    loop-again
+    shared-slice-read-wide
+    wide-requires
+    cast-c
+    add-take-whole
+    mul-take-whole
+    add-take-whole-2
+    take-whole-requires
+    loop-less-2
+    loop-again-2
+    add-units
+    loop-less-3
+    loop-again-3
+    mul-taken
+    taken-requires
+    same-length
+    returns)

@@ -1,0 +1,47 @@
+-- The one case analysis over a code's number. Assumes nothing.
+use Prim.Native.Nat.{ℕ, _<_}
+use mathlib.Core.Path.{_≡_, refl, sym, _∙_}
+use mathlib.Core.Bool.{Bool, true, false, cond}
+use mathlib.Core.List.{List}
+use native.Mathlib.Omega.{arith}
+use lib.Dec.{ltb, eqb}
+use lib.ListN.{getD}
+use borrow.Author.Tests.{lt-ltb, eqb-true}
+use Rattle.meaning.specs.Codes.{Code, always, codeVByte, codeGroups, codeG8IU, codeStream, codeGamma, codeDelta, codeOf}
+use Rattle.meaning.specs.Fields.{byteLength}
+use Rattle.meaning.specs.Places.{Spare}
+use Rattle.meaning.proofs.Tests.{by-test}
+
+-- what holds of each code by its number holds of the code that a number is
+pub by-number {ℓ} : (P : Code → Type ℓ) (c : ℕ) → (c ≡ 1 → P codeVByte) → (c ≡ 2 → P codeGroups) → (c ≡ 3 → P codeG8IU) → (c ≡ 4 → P codeStream) →
+    (c ≡ 5 → P codeGamma)
+    → P codeDelta → P (codeOf c)
+unfolding codeOf
+by-number P c one two three four five six =
+    by-test (eqb c 1) (λ t. rw t (one (eqb-true c 1 t))) (λ f.
+    rw f
+    (by-test (eqb c 2) (λ t. rw t (two (eqb-true c 2 t))) (λ f.
+    rw f
+    (by-test (eqb c 3) (λ t. rw t (three (eqb-true c 3 t))) (λ f.
+    rw f
+    (by-test (eqb c 4) (λ t. rw t (four (eqb-true c 4 t))) (λ f.
+    rw f
+    (by-test (eqb c 5) (λ t. rw t (five (eqb-true c 5 t))) (λ f. rw f six)))))))))
+
+pub by-code {ℓ} : (P : Code → Type ℓ) → P codeVByte → P codeGroups → P codeG8IU → P codeStream → P codeGamma → P codeDelta → (c : ℕ) → P (codeOf c)
+by-code P one two three four five six c = by-number P c (λ e. one) (λ e. two) (λ e. three) (λ e. four) (λ e. five) six
+
+-- a number takes a byte at least
+pub length-some : (x : ℕ) → 0 < byteLength x
+unfolding byteLength
+length-some x = go (ltb x (256)) (ltb x 65536) (ltb x 16777216)
+  where
+    go : (a b d : Bool) → 0 < cond a 1 (cond b 2 (cond d 3 4))
+    go true b d = omega arith
+    go false true d = omega arith
+    go false false true = omega arith
+    go false false false = omega arith
+
+-- where a unit may follow any other, nothing is left spare
+pub spare-always : (before : List ℕ) → Spare always before 0
+spare-always before xs = sym (lt-ltb 0 (byteLength (getD xs 0 0)) (length-some (getD xs 0 0)))

@@ -1,0 +1,32 @@
+// A run stage's header.
+use fields::word_at;
+use leaves::whole;
+use meaning::FAULT;
+use meaning::Offset;
+ghost use mathlib.Core.Path.{_≡_};
+ghost use Rattle.stages.specs.Header.{headerIn, headerSays};
+
+// How many runs there are and where the values body ends, or the refusal.
+pub enum Header {
+    Runs(usize, Offset),
+    Refused(u8),
+}
+
+// A run stage's header: it fits, its count is at most n, and the values body fits.
+pub fn header_of(body: &[u8], n: usize) -> Header
+    ensures { λ r. ⌜ headerSays r ≡ headerIn n (now (body .entry)) ⌝ }
+{
+    if body.len() < 8 {
+        return Header::Refused(FAULT);
+    }
+    let runs = whole(word_at(body, 0));
+    if n < runs {
+        return Header::Refused(FAULT);
+    }
+    let size = whole(word_at(body, 4));
+    if body.len() - 8 < size {
+        return Header::Refused(FAULT);
+    }
+    let end = 8 + size;
+    Header::Runs(runs, Offset { byte: end })
+}
