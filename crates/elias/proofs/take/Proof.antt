@@ -29,27 +29,12 @@ there c =
     let read : At tie.After-quick-word = search in
     taking-found (turn-of c .loop .inv) (sym (read .quick-word .ensures) ∙ ap wordSays (c .w .given .1))
 
-lesser-requires : tie.Need-lesser-requires Inv-loop μ-loop
-lesser-requires c κs = search needs
-
 loop-holds : tie.Need-loop-holds Inv-loop μ-loop
 loop-holds c = let start : At tie.Start = search in taking-start (start .pre) (c .lesser .ensures)
 
 -- ---- a turn
 quick-word-requires : tie.Need-quick-word-requires Inv-loop μ-loop
 quick-word-requires c κs = let turn : At tie.At-loop = search in turn .loop .inv .short
-
-enum-known-w : tie.Need-enum-known-w Inv-loop μ-loop
-enum-known-w c = search needs
-
-enum-told : tie.Need-enum-told Inv-loop μ-loop
-enum-told c = search needs
-
-from-bit-requires : tie.Need-from-bit-requires Inv-loop μ-loop
-from-bit-requires c κs = search needs
-
-taken-requires : tie.Need-taken-requires Inv-loop μ-loop
-taken-requires c κs = search needs
 
 same-length : tie.Need-same-length Inv-loop μ-loop
 same-length c = let turn : At tie.At-loop = search in turn .loop .inv .long
@@ -95,12 +80,6 @@ loop-again c =
     taking-turn (turn .loop .inv) (tested .loop-test .taken) (sym (read .quick-word .ensures) ∙ ap wordSays (arm .w .given .1))
 
 -- ---- after the loop
-from-bit-requires-2 : tie.Need-from-bit-requires-2 Inv-loop μ-loop
-from-bit-requires-2 c κs = search needs
-
-taken-requires-2 : tie.Need-taken-requires-2 Inv-loop μ-loop
-taken-requires-2 c κs = search needs
-
 same-length-2 : tie.Need-same-length-2 Inv-loop μ-loop
 same-length-2 c = let turn : At tie.At-loop = search in turn .loop .inv .long
 
@@ -117,13 +96,13 @@ take-spec =
     (tie.spec
     Inv-loop
     μ-loop
-    lesser-requires
+    (λ c κs. search needs)  -- lesser-requires
     loop-holds
     quick-word-requires
-    enum-known-w
-    enum-told
-    from-bit-requires
-    taken-requires
+    (λ c. search needs)  -- enum-known-w
+    (λ c. search needs)  -- enum-told
+    (λ c κs. search needs)  -- from-bit-requires
+    (λ c κs. search needs)  -- taken-requires
     same-length
     returns
     sub-work
@@ -135,7 +114,7 @@ take-spec =
     add-i
     loop-less
     loop-again
-    from-bit-requires-2
-    taken-requires-2
+    (λ c κs. search needs)  -- from-bit-requires-2
+    (λ c κs. search needs)  -- taken-requires-2
     same-length-2
     returns-2)

@@ -18,30 +18,15 @@ there c =
     let start = start-of c in
     found (start .args .form) (start .args .body .now) (start .args .at .bit .index) (start .pre) (sym (read .word-at .ensures) ∙ ap wordSays (c .w .given .1))
 
-word-at-requires : tie.Need-word-at-requires
-word-at-requires c κs = search needs
-
-enum-known-w : tie.Need-enum-known-w
-enum-known-w c = search needs
-
 sub-numbers : tie.Need-sub-numbers
 sub-numbers c = omega (arith, there (c .before))
 
 cast-numbers : tie.Need-cast-numbers
 cast-numbers c = omega (arith, there (c .before))
 
-array-write-numbers : tie.Need-array-write-numbers
-array-write-numbers c = search needs
-
 add-from-bit : tie.Need-add-from-bit
 unfolding start-of
 add-from-bit c = omega (arith, there (c .before))
-
-from-bit-requires : tie.Need-from-bit-requires
-from-bit-requires c κs = search needs
-
-enum-known-w-2 : tie.Need-enum-known-w-2
-enum-known-w-2 c = search needs
 
 returns : tie.Need-returns
 returns c =
@@ -68,13 +53,13 @@ pub unit-spec : {M : Type 1} → statement M
 unit-spec =
     tie.close
     (tie.spec
-    word-at-requires
-    enum-known-w
+    (λ c κs. search needs)  -- word-at-requires
+    (λ c. search needs)  -- enum-known-w
     sub-numbers
     cast-numbers
-    array-write-numbers
+    (λ c. search needs)  -- array-write-numbers
     add-from-bit
-    from-bit-requires
-    enum-known-w-2
+    (λ c κs. search needs)  -- from-bit-requires
+    (λ c. search needs)  -- enum-known-w-2
     returns
     returns-2)

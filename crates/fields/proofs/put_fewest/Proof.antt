@@ -12,21 +12,9 @@ use Rattle.fields.proofs.put_fewest.Lts as lts
 use Rattle.leaves.proofs.put.Reads as put-reads
 
 -- src/lib.rt:55:18
-cast-put : tie.Need-cast-put
-cast-put c = search needs
-
 -- src/lib.rt:55:5
-put-requires : tie.Need-put-requires
-put-requires c κs = search needs
-
 -- src/lib.rt:57:16
-add-result : tie.Need-add-result
-add-result c = search needs
-
 -- src/lib.rt:57:9
-same-length : tie.Need-same-length
-same-length c = search needs
-
 -- src/lib.rt:57:9
 returns : tie.Need-returns
 returns c =
@@ -35,25 +23,10 @@ returns c =
     (f .0, c .before .before .before .put .ensures ∙ f .1)
 
 -- src/lib.rt:59:14
-add-put : tie.Need-add-put
-add-put c = search needs
-
 -- src/lib.rt:59:22
-cast-put-2 : tie.Need-cast-put-2
-cast-put-2 c = search needs
-
 -- src/lib.rt:59:5
-put-requires-2 : tie.Need-put-requires-2
-put-requires-2 c κs = search needs
-
 -- src/lib.rt:61:16
-add-result-2 : tie.Need-add-result-2
-add-result-2 c = search needs
-
 -- src/lib.rt:61:9
-same-length-2 : tie.Need-same-length-2
-same-length-2 c = search needs
-
 -- src/lib.rt:61:9
 returns-2 : tie.Need-returns-2
 returns-2 c =
@@ -64,25 +37,10 @@ returns-2 c =
     )
 
 -- src/lib.rt:63:14
-add-put-2 : tie.Need-add-put-2
-add-put-2 c = search needs
-
 -- src/lib.rt:63:22
-cast-put-3 : tie.Need-cast-put-3
-cast-put-3 c = search needs
-
 -- src/lib.rt:63:5
-put-requires-3 : tie.Need-put-requires-3
-put-requires-3 c κs = search needs
-
 -- src/lib.rt:65:16
-add-result-3 : tie.Need-add-result-3
-add-result-3 c = search needs
-
 -- src/lib.rt:65:9
-same-length-3 : tie.Need-same-length-3
-same-length-3 c = search needs
-
 -- src/lib.rt:65:9
 returns-3 : tie.Need-returns-3
 returns-3 c =
@@ -96,25 +54,10 @@ returns-3 c =
     )
 
 -- src/lib.rt:67:14
-add-put-3 : tie.Need-add-put-3
-add-put-3 c = search needs
-
 -- src/lib.rt:67:22
-cast-put-4 : tie.Need-cast-put-4
-cast-put-4 c = search needs
-
 -- src/lib.rt:67:5
-put-requires-4 : tie.Need-put-requires-4
-put-requires-4 c κs = search needs
-
 -- src/lib.rt:68:5
-add-result-4 : tie.Need-add-result-4
-add-result-4 c = search needs
-
 -- src/lib.rt:51:1
-same-length-4 : tie.Need-same-length-4
-same-length-4 c = search needs
-
 -- src/lib.rt:51:1
 returns-4 : tie.Need-returns-4
 returns-4 c =
@@ -133,26 +76,26 @@ pub put-fewest-spec : {M : Type 1} → statement M
 put-fewest-spec =
     tie.close
     (tie.spec
-    cast-put
-    put-requires
-    add-result
-    same-length
+    (λ c. search needs)  -- cast-put
+    (λ c κs. search needs)  -- put-requires
+    (λ c. search needs)  -- add-result
+    (λ c. search needs)  -- same-length
     returns
-    add-put
-    cast-put-2
-    put-requires-2
-    add-result-2
-    same-length-2
+    (λ c. search needs)  -- add-put
+    (λ c. search needs)  -- cast-put-2
+    (λ c κs. search needs)  -- put-requires-2
+    (λ c. search needs)  -- add-result-2
+    (λ c. search needs)  -- same-length-2
     returns-2
-    add-put-2
-    cast-put-3
-    put-requires-3
-    add-result-3
-    same-length-3
+    (λ c. search needs)  -- add-put-2
+    (λ c. search needs)  -- cast-put-3
+    (λ c κs. search needs)  -- put-requires-3
+    (λ c. search needs)  -- add-result-3
+    (λ c. search needs)  -- same-length-3
     returns-3
-    add-put-3
-    cast-put-4
-    put-requires-4
-    add-result-4
-    same-length-4
+    (λ c. search needs)  -- add-put-3
+    (λ c. search needs)  -- cast-put-4
+    (λ c κs. search needs)  -- put-requires-4
+    (λ c. search needs)  -- add-result-4
+    (λ c. search needs)  -- same-length-4
     returns-4)

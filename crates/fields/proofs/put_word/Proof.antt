@@ -11,53 +11,17 @@ use Rattle.fields.proofs.put_word.Lts as lts
 use Rattle.leaves.proofs.put.Reads as put-reads
 
 -- src/lib.rt:76:18
-cast-put : tie.Need-cast-put
-cast-put c = search needs
-
 -- src/lib.rt:76:5
-put-requires : tie.Need-put-requires
-put-requires c κs = search needs
-
 -- src/lib.rt:77:14
-add-put : tie.Need-add-put
-add-put c = search needs
-
 -- src/lib.rt:77:22
-cast-put-2 : tie.Need-cast-put-2
-cast-put-2 c = search needs
-
 -- src/lib.rt:77:5
-put-requires-2 : tie.Need-put-requires-2
-put-requires-2 c κs = search needs
-
 -- src/lib.rt:78:14
-add-put-2 : tie.Need-add-put-2
-add-put-2 c = search needs
-
 -- src/lib.rt:78:22
-cast-put-3 : tie.Need-cast-put-3
-cast-put-3 c = search needs
-
 -- src/lib.rt:78:5
-put-requires-3 : tie.Need-put-requires-3
-put-requires-3 c κs = search needs
-
 -- src/lib.rt:79:14
-add-put-3 : tie.Need-add-put-3
-add-put-3 c = search needs
-
 -- src/lib.rt:79:22
-cast-put-4 : tie.Need-cast-put-4
-cast-put-4 c = search needs
-
 -- src/lib.rt:79:5
-put-requires-4 : tie.Need-put-requires-4
-put-requires-4 c κs = search needs
-
 -- src/lib.rt:72:1
-same-length : tie.Need-same-length
-same-length c = search needs
-
 -- src/lib.rt:72:1
 returns : tie.Need-returns
 returns c =
@@ -73,16 +37,16 @@ pub put-word-spec : {M : Type 1} → statement M
 put-word-spec =
     tie.close
     (tie.spec
-    cast-put
-    put-requires
-    add-put
-    cast-put-2
-    put-requires-2
-    add-put-2
-    cast-put-3
-    put-requires-3
-    add-put-3
-    cast-put-4
-    put-requires-4
-    same-length
+    (λ c. search needs)  -- cast-put
+    (λ c κs. search needs)  -- put-requires
+    (λ c. search needs)  -- add-put
+    (λ c. search needs)  -- cast-put-2
+    (λ c κs. search needs)  -- put-requires-2
+    (λ c. search needs)  -- add-put-2
+    (λ c. search needs)  -- cast-put-3
+    (λ c κs. search needs)  -- put-requires-3
+    (λ c. search needs)  -- add-put-3
+    (λ c. search needs)  -- cast-put-4
+    (λ c κs. search needs)  -- put-requires-4
+    (λ c. search needs)  -- same-length
     returns)

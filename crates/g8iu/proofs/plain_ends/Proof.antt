@@ -13,29 +13,11 @@ use Rattle.g8iu.proofs.plain_ends.Tie as tie
 inside : (c : tie.Else1) → c .before .before .before .args .at + 9 ≤ length (c .before .before .before .args .body .now)
 inside c = leb-true _ _ (sym (c .before .has-block .ensures) ∙ not-false _ (c .if1 .left))
 
-has-block-requires : tie.Need-has-block-requires
-has-block-requires c κs = search needs
-
-returns : tie.Need-returns
-returns c = search needs
-
 shared-slice-read-wide : tie.Need-shared-slice-read-wide
 shared-slice-read-wide c = let found : tie.Else1 = search in omega (arith, inside found)
 
-wide-requires : tie.Need-wide-requires
-wide-requires c κs = search needs
-
-sub-ends : tie.Need-sub-ends
-sub-ends c = search needs
-
-returns-2 : tie.Need-returns-2
-returns-2 c = search needs
-
 cast-if3 : tie.Need-cast-if3
 cast-if3 c = omega (arith, trailing-le 32 (255 - c .before .wide .result))
-
-returns-3 : tie.Need-returns-3
-returns-3 c = search needs
 
 returns-4 : tie.Need-returns-4
 returns-4 c =
@@ -47,12 +29,12 @@ pub plain-ends-spec : {M : Type 1} → statement M
 plain-ends-spec =
     tie.close
     (tie.spec
-    has-block-requires
-    returns
+    (λ c κs. search needs)  -- has-block-requires
+    (λ c. search needs)  -- returns
     shared-slice-read-wide
-    wide-requires
-    sub-ends
-    returns-2
+    (λ c κs. search needs)  -- wide-requires
+    (λ c. search needs)  -- sub-ends
+    (λ c. search needs)  -- returns-2
     cast-if3
-    returns-3
+    (λ c. search needs)  -- returns-3
     returns-4)

@@ -33,9 +33,6 @@ mul-byte-length c = omega arith
 array-read-byte-length : tie.Need-array-read-byte-length Inv-loop μ-loop
 array-read-byte-length c = omega arith
 
-byte-length-requires : tie.Need-byte-length-requires Inv-loop μ-loop
-byte-length-requires c κs = search needs
-
 add-used : tie.Need-add-used Inv-loop μ-loop
 add-used c =
     let turn : At tie.In-loop = search in
@@ -49,9 +46,6 @@ loop-less c = omega arith
 
 loop-again : tie.Need-loop-again Inv-loop μ-loop
 loop-again c = let turn : At tie.In-loop = search in used-turn (turn .before .loop .inv) (turn .loop-test .taken) (c .byte-length .ensures)
-
-lesser-requires : tie.Need-lesser-requires Inv-loop μ-loop
-lesser-requires c κs = search needs
 
 sub-result : tie.Need-sub-result Inv-loop μ-loop
 sub-result c = omega arith
@@ -72,11 +66,11 @@ spare-after-spec =
     loop-holds
     mul-byte-length
     array-read-byte-length
-    byte-length-requires
+    (λ c κs. search needs)  -- byte-length-requires
     add-used
     add-i
     loop-less
     loop-again
-    lesser-requires
+    (λ c κs. search needs)  -- lesser-requires
     sub-result
     returns-2)

@@ -19,12 +19,6 @@ abbrev μ-loop : tie.MeasureT-loop
 abbrev At : (tie.InvT-loop → tie.MeasureT-loop → Type 0) → Type 0
 At point = point Inv-loop μ-loop
 
-lesser-requires : tie.Need-lesser-requires Inv-loop μ-loop
-lesser-requires c κs = search needs
-
-lesser-requires-2 : tie.Need-lesser-requires-2 Inv-loop μ-loop
-lesser-requires-2 c κs = search needs
-
 sub-end : tie.Need-sub-end Inv-loop μ-loop
 sub-end c = omega arith
 
@@ -37,9 +31,6 @@ loop-holds c =
     let least : At tie.After-lesser = search in
     let start : At tie.Start = search in
     going-start (λ i. known .shared-slice-known .given i .fits) (start .pre) (least .lesser .ensures) (c .lesser2 .ensures)
-
-plain-ends-requires : tie.Need-plain-ends-requires Inv-loop μ-loop
-plain-ends-requires c κs = search needs
 
 reached-requires : tie.Need-reached-requires Inv-loop μ-loop
 reached-requires c κs = let turn : At tie.In-loop = search in going-on (turn .before .loop .inv)
@@ -125,12 +116,12 @@ take-spec =
     (tie.spec
     Inv-loop
     μ-loop
-    lesser-requires
-    lesser-requires-2
+    (λ c κs. search needs)  -- lesser-requires
+    (λ c κs. search needs)  -- lesser-requires-2
     sub-end
     add-end
     loop-holds
-    plain-ends-requires
+    (λ c κs. search needs)  -- plain-ends-requires
     reached-requires
     same-length
     returns

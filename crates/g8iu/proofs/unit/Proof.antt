@@ -26,12 +26,6 @@ standing c =
       allows = sym (tried .is-allowed .ensures) ∙ not-false _ (c .if2 .left);
     }
 
-has-block-requires : tie.Need-has-block-requires
-has-block-requires c κs = search needs
-
-refusal-requires : tie.Need-refusal-requires
-refusal-requires c κs = search needs
-
 returns : tie.Need-returns
 returns c =
     let none : tie.Then1 = search in
@@ -47,12 +41,6 @@ shared-slice-read-control c =
     let start : tie.Start = search in
     omega (arith, leb-true (start .args .at .head .byte + 9) (length (start .args .body .now)) (sym (has .has-block .ensures) ∙ not-false _ (found .if1 .left)))
 
-is-allowed-requires : tie.Need-is-allowed-requires
-is-allowed-requires c κs = search needs
-
-refusal-requires-2 : tie.Need-refusal-requires-2
-refusal-requires-2 c κs = search needs
-
 returns-2 : tie.Need-returns-2
 returns-2 c =
     let bad : tie.Then2 = search in
@@ -61,24 +49,12 @@ returns-2 c =
     unit-refused _ (start .args .left) (start .args .at) (unit-barred _ _ _ (sym (tried .is-allowed .ensures) ∙ not-true _ (bad .if2 .taken)))
     (c .refusal2 .ensures)
 
-wide-requires : tie.Need-wide-requires
-wide-requires c κs = search needs
-
-sub-ends : tie.Need-sub-ends
-sub-ends c = search needs
-
-slice-aggregate-take-ends : tie.Need-slice-aggregate-take-ends
-slice-aggregate-take-ends c = search needs
-
 take-ends-requires : tie.Need-take-ends-requires
 unfolding start-of
 take-ends-requires c κs =
     let ends : tie.After-wide = search in
     let good : tie.Else2 = search in
     unit-asks (standing good) (rw (ends .wide .ensures .0))
-
-refusal-requires-3 : tie.Need-refusal-requires-3
-refusal-requires-3 c κs = search needs
 
 returns-3 : tie.Need-returns-3
 unfolding start-of
@@ -92,9 +68,6 @@ add-from-byte : tie.Need-add-from-byte
 unfolding start-of
 add-from-byte c = let good : tie.Else2 = search in omega (arith, standing good .inside)
 
-from-byte-requires : tie.Need-from-byte-requires
-from-byte-requires c κs = search needs
-
 returns-4 : tie.Need-returns-4
 unfolding start-of
 returns-4 c =
@@ -107,19 +80,19 @@ pub unit-spec : {M : Type 1} → statement M
 unit-spec =
     tie.close
     (tie.spec
-    has-block-requires
-    refusal-requires
+    (λ c κs. search needs)  -- has-block-requires
+    (λ c κs. search needs)  -- refusal-requires
     returns
     shared-slice-read-control
-    is-allowed-requires
-    refusal-requires-2
+    (λ c κs. search needs)  -- is-allowed-requires
+    (λ c κs. search needs)  -- refusal-requires-2
     returns-2
-    wide-requires
-    sub-ends
-    slice-aggregate-take-ends
+    (λ c κs. search needs)  -- wide-requires
+    (λ c. search needs)  -- sub-ends
+    (λ c. search needs)  -- slice-aggregate-take-ends
     take-ends-requires
-    refusal-requires-3
+    (λ c κs. search needs)  -- refusal-requires-3
     returns-3
     add-from-byte
-    from-byte-requires
+    (λ c κs. search needs)  -- from-byte-requires
     returns-4)

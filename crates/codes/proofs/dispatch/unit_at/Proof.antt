@@ -3,24 +3,6 @@ use borrow.Author.Needs.{needs}
 use Rattle.codes.proofs.dispatch.unit_at.Statement.{statement}
 use Rattle.codes.proofs.dispatch.unit_at.Tie as tie
 
-unit-requires : tie.Need-unit-requires
-unit-requires c κs = search needs
-
-unit-groups-requires : tie.Need-unit-groups-requires
-unit-groups-requires c κs = search needs
-
-unit-requires-2 : tie.Need-unit-requires-2
-unit-requires-2 c κs = search needs
-
-unit-stream-requires : tie.Need-unit-stream-requires
-unit-stream-requires c κs = search needs
-
-unit-gamma-requires : tie.Need-unit-gamma-requires
-unit-gamma-requires c κs = search needs
-
-unit-delta-requires : tie.Need-unit-delta-requires
-unit-delta-requires c κs = search needs
-
 returns : tie.Need-returns
 returns c =
     let m = c .before .match in rw (code-1 _ (m .keys1)) (c .unit .ensures)
@@ -50,12 +32,12 @@ pub unit-at-spec : {M : Type 1} → statement M
 unit-at-spec =
     tie.close
     (tie.spec
-    unit-requires
-    unit-groups-requires
-    unit-requires-2
-    unit-stream-requires
-    unit-gamma-requires
-    unit-delta-requires
+    (λ c κs. search needs)  -- unit-requires
+    (λ c κs. search needs)  -- unit-groups-requires
+    (λ c κs. search needs)  -- unit-requires-2
+    (λ c κs. search needs)  -- unit-stream-requires
+    (λ c κs. search needs)  -- unit-gamma-requires
+    (λ c κs. search needs)  -- unit-delta-requires
     returns
     returns-2
     returns-3

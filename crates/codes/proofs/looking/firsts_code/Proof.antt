@@ -29,18 +29,6 @@ returns c =
     let e = c .if1 .taken in
     rw e (firsts-all laid-none refl)
 
-start-at-requires : tie.Need-start-at-requires Inv-loop μ-loop
-start-at-requires c κs = search needs
-
-enum-known-started : tie.Need-enum-known-started Inv-loop μ-loop
-enum-known-started c = search needs
-
-enum-told : tie.Need-enum-told Inv-loop μ-loop
-enum-told c = search needs
-
-start-refusal-requires : tie.Need-start-refusal-requires Inv-loop μ-loop
-start-refusal-requires c κs = search needs
-
 returns-2 : tie.Need-returns-2 Inv-loop μ-loop
 returns-2 c =
     let told : At tie.After-enum-told = search in
@@ -73,9 +61,6 @@ add-place c =
     let (l, laid, most, space) = turn .loop .inv in
     omega (arith, space .room, start .good)
 
-sub-room : tie.Need-sub-room Inv-loop μ-loop
-sub-room c = search needs
-
 sub-stretch : tie.Need-sub-stretch Inv-loop μ-loop
 sub-stretch c =
     let turn : At tie.At-loop = search in
@@ -89,18 +74,6 @@ stretch-requires c κs =
     let l = looking (turn .loop-test .taken) in
     (record { inside = omega (arith, laid .long, space .room); short = l .short }, omega (arith, space .inside, turn .loop-test .taken))
 
-enum-known-went : tie.Need-enum-known-went Inv-loop μ-loop
-enum-known-went c = search needs
-
-enum-told-2 : tie.Need-enum-told-2 Inv-loop μ-loop
-enum-told-2 c = search needs
-
-went-refusal-requires : tie.Need-went-refusal-requires Inv-loop μ-loop
-went-refusal-requires c κs = search needs
-
-same-length : tie.Need-same-length Inv-loop μ-loop
-same-length c = search needs
-
 returns-3 : tie.Need-returns-3 Inv-loop μ-loop
 returns-3 c =
     let told : At tie.After-enum-told2 = search in
@@ -113,9 +86,6 @@ returns-3 c =
     (firsts-stop laid (turn .loop-test .taken)
     (refuses l (went .stretch .ensures) (told .enum-told2 .given .1) _ (omega arith) (omega (arith, space .inside, turn .loop-test .taken))
     ∙ ap (λ (e : ℕ). refused e) (sym (c .went-refusal .ensures))))
-
-lesser-requires : tie.Need-lesser-requires Inv-loop μ-loop
-lesser-requires c κs = search needs
 
 add-passed : tie.Need-add-passed Inv-loop μ-loop
 add-passed c =
@@ -166,22 +136,22 @@ firsts-code-spec =
     Inv-loop
     μ-loop
     returns
-    start-at-requires
-    enum-known-started
-    enum-told
-    start-refusal-requires
+    (λ c κs. search needs)  -- start-at-requires
+    (λ c. search needs)  -- enum-known-started
+    (λ c. search needs)  -- enum-told
+    (λ c κs. search needs)  -- start-refusal-requires
     returns-2
     loop-holds
     add-place
-    sub-room
+    (λ c. search needs)  -- sub-room
     sub-stretch
     stretch-requires
-    enum-known-went
-    enum-told-2
-    went-refusal-requires
-    same-length
+    (λ c. search needs)  -- enum-known-went
+    (λ c. search needs)  -- enum-told-2
+    (λ c κs. search needs)  -- went-refusal-requires
+    (λ c. search needs)  -- same-length
     returns-3
-    lesser-requires
+    (λ c κs. search needs)  -- lesser-requires
     add-passed
     loop-less
     loop-again

@@ -32,18 +32,6 @@ returns c =
     let lengths = lookCode (codeOf (a .code)) (a .body .now) (a .runs) in
     sym (seek-none lengths (a .n) (a .place .number) (a .runs) 0 0 (c .if1 .taken))
 
-start-at-requires : tie.Need-start-at-requires Inv-loop μ-loop
-start-at-requires c κs = search needs
-
-enum-known-started : tie.Need-enum-known-started Inv-loop μ-loop
-enum-known-started c = search needs
-
-enum-told : tie.Need-enum-told Inv-loop μ-loop
-enum-told c = search needs
-
-start-refusal-requires : tie.Need-start-refusal-requires Inv-loop μ-loop
-start-refusal-requires c κs = search needs
-
 returns-2 : tie.Need-returns-2 Inv-loop μ-loop
 returns-2 c =
     let told : At tie.After-enum-told = search in
@@ -84,30 +72,12 @@ add-lesser c =
     let (o, within, inside, few, long, less) = turn .before .loop .inv in
     omega arith
 
-lesser-requires : tie.Need-lesser-requires Inv-loop μ-loop
-lesser-requires c κs = search needs
-
-sub-stretch : tie.Need-sub-stretch Inv-loop μ-loop
-sub-stretch c = search needs
-
-slice-aggregate-stretch : tie.Need-slice-aggregate-stretch Inv-loop μ-loop
-slice-aggregate-stretch c = search needs
-
 stretch-requires : tie.Need-stretch-requires Inv-loop μ-loop
 stretch-requires c κs =
     let least : At tie.After-lesser = search in
     let turn : At tie.In-loop = search in
     let (o, within, inside, few, long, less) = turn .before .loop .inv in
     (record { inside = omega (arith, least .lesser .ensures, long); short = o .looking .short }, omega (arith, turn .loop-test .taken))
-
-enum-known-went : tie.Need-enum-known-went Inv-loop μ-loop
-enum-known-went c = search needs
-
-enum-told-2 : tie.Need-enum-told-2 Inv-loop μ-loop
-enum-told-2 c = search needs
-
-went-refusal-requires : tie.Need-went-refusal-requires Inv-loop μ-loop
-went-refusal-requires c κs = search needs
 
 returns-3 : tie.Need-returns-3 Inv-loop μ-loop
 returns-3 c =
@@ -116,9 +86,6 @@ returns-3 c =
     let turn : At tie.In-loop = search in
     let (o, within, inside, few, long, less) = turn .before .loop .inv in
     ap (λ (e : ℕ). refused e) (c .went-refusal .ensures) ∙ sym (on-refused o (turn .loop-test .taken) (went .stretch .ensures) (told .enum-told2 .given .1))
-
-slice-aggregate-seek-in : tie.Need-slice-aggregate-seek-in Inv-loop μ-loop
-slice-aggregate-seek-in c = search needs
 
 seek-in-requires : tie.Need-seek-in-requires Inv-loop μ-loop
 seek-in-requires c κs =
@@ -129,9 +96,6 @@ seek-in-requires c κs =
     let (o, within, inside, few, long, less) = turn .before .loop .inv in
     let g = goes-on (went .stretch .ensures) (told .went .given .1) in
     (omega (arith, g .few, least .lesser .ensures, passed-long g, long), within)
-
-enum-known-j : tie.Need-enum-known-j Inv-loop μ-loop
-enum-known-j c = search needs
 
 add-run : tie.Need-add-run Inv-loop μ-loop
 add-run c =
@@ -159,9 +123,6 @@ returns-4 c =
     let g = goes-on (went .stretch .ensures) (told .went .given .1) in
     sym (on-found o g (omega (arith, least .lesser .ensures, long)) (omega (arith, g .few, least .lesser .ensures)) (sought .seek-in .ensures)
     (at .j .given .1))
-
-enum-known-end : tie.Need-enum-known-end Inv-loop μ-loop
-enum-known-end c = search needs
 
 add-passed : tie.Need-add-passed Inv-loop μ-loop
 add-passed c =
@@ -204,9 +165,6 @@ loop-again c =
       less,
     )
 
-enum-known-e : tie.Need-enum-known-e Inv-loop μ-loop
-enum-known-e c = search needs
-
 returns-5 : tie.Need-returns-5 Inv-loop μ-loop
 returns-5 c =
     let at : At tie.After-e = search in
@@ -230,31 +188,31 @@ seek-code-spec =
     Inv-loop
     μ-loop
     returns
-    start-at-requires
-    enum-known-started
-    enum-told
-    start-refusal-requires
+    (λ c κs. search needs)  -- start-at-requires
+    (λ c. search needs)  -- enum-known-started
+    (λ c. search needs)  -- enum-told
+    (λ c κs. search needs)  -- start-refusal-requires
     returns-2
     loop-holds
     sub-lesser
     add-lesser
-    lesser-requires
-    sub-stretch
-    slice-aggregate-stretch
+    (λ c κs. search needs)  -- lesser-requires
+    (λ c. search needs)  -- sub-stretch
+    (λ c. search needs)  -- slice-aggregate-stretch
     stretch-requires
-    enum-known-went
-    enum-told-2
-    went-refusal-requires
+    (λ c. search needs)  -- enum-known-went
+    (λ c. search needs)  -- enum-told-2
+    (λ c κs. search needs)  -- went-refusal-requires
     returns-3
-    slice-aggregate-seek-in
+    (λ c. search needs)  -- slice-aggregate-seek-in
     seek-in-requires
-    enum-known-j
+    (λ c. search needs)  -- enum-known-j
     add-run
     returns-4
-    enum-known-end
+    (λ c. search needs)  -- enum-known-end
     add-passed
     loop-less
     loop-again
-    enum-known-e
+    (λ c. search needs)  -- enum-known-e
     returns-5
     returns-6)

@@ -26,18 +26,6 @@ abbrev μ-loop : tie.MeasureT-loop
 abbrev At : (tie.InvT-loop → tie.MeasureT-loop → Type 0) → Type 0
 At point = point Inv-loop μ-loop
 
-start-at-requires : tie.Need-start-at-requires Inv-loop μ-loop
-start-at-requires c κs = search needs
-
-enum-known-started : tie.Need-enum-known-started Inv-loop μ-loop
-enum-known-started c = search needs
-
-enum-told : tie.Need-enum-told Inv-loop μ-loop
-enum-told c = search needs
-
-start-refusal-requires : tie.Need-start-refusal-requires Inv-loop μ-loop
-start-refusal-requires c κs = search needs
-
 returns : tie.Need-returns Inv-loop μ-loop
 returns c =
     let told : At tie.After-enum-told = search in
@@ -69,22 +57,10 @@ loop-holds c =
       omega arith,
     )
 
-sub-here : tie.Need-sub-here Inv-loop μ-loop
-sub-here c = search needs
-
 add-lesser : tie.Need-add-lesser Inv-loop μ-loop
 add-lesser c =
     let turn : At tie.At-loop = search in
     omega (arith, turn .loop .inv)
-
-lesser-requires : tie.Need-lesser-requires Inv-loop μ-loop
-lesser-requires c κs = search needs
-
-sub-stretch : tie.Need-sub-stretch Inv-loop μ-loop
-sub-stretch c = search needs
-
-slice-aggregate-stretch : tie.Need-slice-aggregate-stretch Inv-loop μ-loop
-slice-aggregate-stretch c = search needs
 
 stretch-requires : tie.Need-stretch-requires Inv-loop μ-loop
 stretch-requires c κs =
@@ -92,15 +68,6 @@ stretch-requires c κs =
     let turn : At tie.At-loop = search in
     let (l, most, inside, few, long, one, eight, sum, low) = turn .loop .inv in
     (record { inside = omega (arith, least .lesser .ensures, long); short = l .short }, omega arith)
-
-enum-known-went : tie.Need-enum-known-went Inv-loop μ-loop
-enum-known-went c = search needs
-
-enum-told-2 : tie.Need-enum-told-2 Inv-loop μ-loop
-enum-told-2 c = search needs
-
-went-refusal-requires : tie.Need-went-refusal-requires Inv-loop μ-loop
-went-refusal-requires c κs = search needs
 
 returns-2 : tie.Need-returns-2 Inv-loop μ-loop
 returns-2 c =
@@ -110,12 +77,6 @@ returns-2 c =
     let (l, most, inside, few, long, one, eight, sum, low) = turn .loop .inv in
     ap (λ (e : ℕ). refused e) (c .went-refusal .ensures)
     ∙ sym (total-refused _ _ _ _ _ (omega arith) sum (refuses l (went .stretch .ensures) (told .enum-told2 .given .1) _ (omega arith) (omega arith)))
-
-slice-aggregate-total-of : tie.Need-slice-aggregate-total-of Inv-loop μ-loop
-slice-aggregate-total-of c = search needs
-
-add-total-of : tie.Need-add-total-of Inv-loop μ-loop
-add-total-of c = search needs
 
 total-of-requires : tie.Need-total-of-requires Inv-loop μ-loop
 total-of-requires c κs =
@@ -146,9 +107,6 @@ returns-3 c =
     ap (λ (x : ℕ). given (turn .loop .s + x)) (c .total-of .ensures .0)
     ∙ total-found l g (omega (arith, least .lesser .ensures, long)) sum _ most (here .if1 .taken)
     (omega (arith, g .few, least .lesser .ensures, here .if1 .taken))
-
-slice-aggregate-total-of-2 : tie.Need-slice-aggregate-total-of-2 Inv-loop μ-loop
-slice-aggregate-total-of-2 c = search needs
 
 total-of-requires-2 : tie.Need-total-of-requires-2 Inv-loop μ-loop
 total-of-requires-2 c κs =
@@ -216,29 +174,29 @@ total-code-spec =
     (tie.spec
     Inv-loop
     μ-loop
-    start-at-requires
-    enum-known-started
-    enum-told
-    start-refusal-requires
+    (λ c κs. search needs)  -- start-at-requires
+    (λ c. search needs)  -- enum-known-started
+    (λ c. search needs)  -- enum-told
+    (λ c κs. search needs)  -- start-refusal-requires
     returns
     (λ c κs. search needs)  -- unit-most-requires
     loop-holds
-    sub-here
+    (λ c. search needs)  -- sub-here
     add-lesser
-    lesser-requires
-    sub-stretch
-    slice-aggregate-stretch
+    (λ c κs. search needs)  -- lesser-requires
+    (λ c. search needs)  -- sub-stretch
+    (λ c. search needs)  -- slice-aggregate-stretch
     stretch-requires
-    enum-known-went
-    enum-told-2
-    went-refusal-requires
+    (λ c. search needs)  -- enum-known-went
+    (λ c. search needs)  -- enum-told-2
+    (λ c κs. search needs)  -- went-refusal-requires
     returns-2
-    slice-aggregate-total-of
-    add-total-of
+    (λ c. search needs)  -- slice-aggregate-total-of
+    (λ c. search needs)  -- add-total-of
     total-of-requires
     add-through
     returns-3
-    slice-aggregate-total-of-2
+    (λ c. search needs)  -- slice-aggregate-total-of-2
     total-of-requires-2
     add-s
     add-passed

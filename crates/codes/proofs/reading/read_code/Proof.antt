@@ -20,18 +20,6 @@ abbrev μ-loop : tie.MeasureT-loop
 abbrev At : (tie.InvT-loop → tie.MeasureT-loop → Type 0) → Type 0
 At point = point Inv-loop μ-loop
 
-start-at-requires : tie.Need-start-at-requires Inv-loop μ-loop
-start-at-requires c κs = search needs
-
-enum-known-started : tie.Need-enum-known-started Inv-loop μ-loop
-enum-known-started c = search needs
-
-enum-told : tie.Need-enum-told Inv-loop μ-loop
-enum-told c = search needs
-
-start-refusal-requires : tie.Need-start-refusal-requires Inv-loop μ-loop
-start-refusal-requires c κs = search needs
-
 returns : tie.Need-returns Inv-loop μ-loop
 returns c =
     let told : At tie.After-enum-told = search in
@@ -56,9 +44,6 @@ add-place c =
     let turn : At tie.At-loop = search in
     omega (arith, turn .loop .inv .low)
 
-sub-left : tie.Need-sub-left Inv-loop μ-loop
-sub-left c = search needs
-
 take-units-requires : tie.Need-take-units-requires Inv-loop μ-loop
 take-units-requires c κs =
     let turn : At tie.In-loop = search in
@@ -70,18 +55,6 @@ or-unit-requires c κs =
     let turn : At tie.In-loop = search in
     let r = turn .before .loop .inv in
     (record { inside = omega (arith, r .so .long, r .target .inside, turn .loop-test .taken); short = r .target .short }, omega (arith, turn .loop-test .taken))
-
-enum-known-went : tie.Need-enum-known-went Inv-loop μ-loop
-enum-known-went c = search needs
-
-enum-told-2 : tie.Need-enum-told-2 Inv-loop μ-loop
-enum-told-2 c = search needs
-
-went-refusal-requires : tie.Need-went-refusal-requires Inv-loop μ-loop
-went-refusal-requires c κs = search needs
-
-same-length : tie.Need-same-length Inv-loop μ-loop
-same-length c = search needs
 
 returns-2 : tie.Need-returns-2 Inv-loop μ-loop
 returns-2 c =
@@ -97,12 +70,6 @@ mul-byte-length c =
     let turn : At tie.In-loop = search in
     let start : At tie.Start = search in
     omega (arith, turn .before .loop .inv .target .inside, start .good)
-
-slice-read-byte-length : tie.Need-slice-read-byte-length Inv-loop μ-loop
-slice-read-byte-length c = search needs
-
-byte-length-requires : tie.Need-byte-length-requires Inv-loop μ-loop
-byte-length-requires c κs = search needs
 
 same-length-2 : tie.Need-same-length-2 Inv-loop μ-loop
 same-length-2 c =
@@ -188,24 +155,24 @@ read-code-spec =
     (tie.spec
     Inv-loop
     μ-loop
-    start-at-requires
-    enum-known-started
-    enum-told
-    start-refusal-requires
+    (λ c κs. search needs)  -- start-at-requires
+    (λ c. search needs)  -- enum-known-started
+    (λ c. search needs)  -- enum-told
+    (λ c κs. search needs)  -- start-refusal-requires
     returns
     loop-holds
     add-place
-    sub-left
+    (λ c. search needs)  -- sub-left
     take-units-requires
     or-unit-requires
-    enum-known-went
-    enum-told-2
-    went-refusal-requires
-    same-length
+    (λ c. search needs)  -- enum-known-went
+    (λ c. search needs)  -- enum-told-2
+    (λ c κs. search needs)  -- went-refusal-requires
+    (λ c. search needs)  -- same-length
     returns-2
     mul-byte-length
-    slice-read-byte-length
-    byte-length-requires
+    (λ c. search needs)  -- slice-read-byte-length
+    (λ c κs. search needs)  -- byte-length-requires
     same-length-2
     returns-3
     add-i

@@ -18,36 +18,12 @@ abbrev μ-loop : tie.MeasureT-loop
 loop-holds : tie.Need-loop-holds Inv-loop μ-loop
 loop-holds c = (search needs, refl, refl)
 
-mul-work : tie.Need-mul-work Inv-loop μ-loop
-mul-work c = search needs
-
-array-read-work : tie.Need-array-read-work Inv-loop μ-loop
-array-read-work c = search needs
-
-add-work : tie.Need-add-work Inv-loop μ-loop
-add-work c = search needs
-
-mul-work-2 : tie.Need-mul-work-2 Inv-loop μ-loop
-mul-work-2 c = search needs
-
-slice-write-work : tie.Need-slice-write-work Inv-loop μ-loop
-slice-write-work c = search needs
-
-add-i : tie.Need-add-i Inv-loop μ-loop
-add-i c = search needs
-
-loop-less : tie.Need-loop-less Inv-loop μ-loop
-loop-less c = search needs
-
 loop-again : tie.Need-loop-again Inv-loop μ-loop
 loop-again c =
     let a = c .before .before .args in
     let l = c .before .loop in
     let is : length (a .t3) ≡ 8 = search needs in
     (omega arith, simp length-set (l .inv .1), lay-turn (a .work .now) (l .work) (a .t3) (a .from .number) (l .i) (omega arith) (l .inv .2))
-
-same-length : tie.Need-same-length Inv-loop μ-loop
-same-length c = search needs
 
 returns : tie.Need-returns Inv-loop μ-loop
 returns c =
@@ -62,13 +38,13 @@ lay-spec =
     Inv-loop
     μ-loop
     loop-holds
-    mul-work
-    array-read-work
-    add-work
-    mul-work-2
-    slice-write-work
-    add-i
-    loop-less
+    (λ c. search needs)  -- mul-work
+    (λ c. search needs)  -- array-read-work
+    (λ c. search needs)  -- add-work
+    (λ c. search needs)  -- mul-work-2
+    (λ c. search needs)  -- slice-write-work
+    (λ c. search needs)  -- add-i
+    (λ c. search needs)  -- loop-less
     loop-again
-    same-length
+    (λ c. search needs)  -- same-length
     returns)

@@ -23,17 +23,8 @@ seen : (c : tie.Else2) → let s = looked-of c .peek-inside .result in Seen 8 5 
 unfolding start-of looked-of
 seen c = search needs
 
-add-if1 : tie.Need-add-if1
-add-if1 c = search needs
-
-word-at-requires : tie.Need-word-at-requires
-word-at-requires c κs = search needs
-
 returns : tie.Need-returns
 returns c = c .word-at .ensures
-
-peek-inside-requires : tie.Need-peek-inside-requires
-peek-inside-requires c κs = search needs
 
 cast-z : tie.Need-cast-z
 cast-z c = omega (arith, leading-le 64 (c .peek-inside .result))
@@ -45,15 +36,6 @@ returns-2 c =
     let l = drop (start .args .p) (bitsOf (start .args .body .now)) in
     delta-refused l fault
     (sym (seen-many (looked .peek-inside .result) l (omega (arith, looked .peek-inside .ok)) (looked .peek-inside .ensures) 5 33 (omega arith) (c .if2 .taken)))
-
-mul-size : tie.Need-mul-size
-mul-size c = search needs
-
-add-size : tie.Need-add-size
-add-size c = search needs
-
-top-requires : tie.Need-top-requires
-top-requires c κs = search needs
 
 returns-3 : tie.Need-returns-3
 unfolding start-of looked-of
@@ -68,15 +50,6 @@ sub-rest c =
     let long : tie.After-top = search in
     let few : tie.Else2 = search in
     length-some (seen few) (long .top .ensures) (omega arith)
-
-shl-v : tie.Need-shl-v
-shl-v c = search needs
-
-shl-top : tie.Need-shl-top
-shl-top c = search needs
-
-top-requires-2 : tie.Need-top-requires-2
-top-requires-2 c κs = search needs
 
 add-v : tie.Need-add-v
 unfolding start-of looked-of
@@ -93,9 +66,6 @@ returns-4 c =
     let few : tie.Else2 = search in
     delta-inside (seen few) (long .top .ensures) (omega arith) (rest .top2 .ensures) .large (c .if4 .taken)
 
-add-whole : tie.Need-add-whole
-add-whole c = search needs
-
 returns-5 : tie.Need-returns-5
 unfolding start-of looked-of
 returns-5 c =
@@ -108,21 +78,21 @@ pub quick-delta-spec : {M : Type 1} → statement M
 quick-delta-spec =
     tie.close
     (tie.spec
-    add-if1
-    word-at-requires
+    (λ c. search needs)  -- add-if1
+    (λ c κs. search needs)  -- word-at-requires
     returns
-    peek-inside-requires
+    (λ c κs. search needs)  -- peek-inside-requires
     cast-z
     returns-2
-    mul-size
-    add-size
-    top-requires
+    (λ c. search needs)  -- mul-size
+    (λ c. search needs)  -- add-size
+    (λ c κs. search needs)  -- top-requires
     returns-3
     sub-rest
-    shl-v
-    shl-top
-    top-requires-2
+    (λ c. search needs)  -- shl-v
+    (λ c. search needs)  -- shl-top
+    (λ c κs. search needs)  -- top-requires-2
     add-v
     returns-4
-    add-whole
+    (λ c. search needs)  -- add-whole
     returns-5)

@@ -34,9 +34,6 @@ shr-put c =
 cast-put : tie.Need-cast-put Inv-loop μ-loop
 cast-put c = omega arith
 
-put-requires : tie.Need-put-requires Inv-loop μ-loop
-put-requires c κs = search needs
-
 add-byte : tie.Need-add-byte Inv-loop μ-loop
 add-byte c =
     omega (arith, c .before .before .before .before .before .loop .inv .reached, c .before .before .before .before .before .before .before .before .before .pre .0 .low)
@@ -70,7 +67,7 @@ push-spec =
     loop-holds
     shr-put
     cast-put
-    put-requires
+    (λ c κs. search needs)  -- put-requires
     add-byte
     loop-less
     loop-again

@@ -5,9 +5,6 @@ use borrow.Author.Needs.{needs}
 use Rattle.elias.proofs.output.push_delta.Statement.{statement}
 use Rattle.elias.proofs.output.push_delta.Tie as tie
 
-bit-length-requires : tie.Need-bit-length-requires
-bit-length-requires c κs = search needs
-
 push-gamma-requires : tie.Need-push-gamma-requires
 push-gamma-requires c κs =
     let a = c .before .before .before .args in
@@ -15,20 +12,11 @@ push-gamma-requires c κs =
     let e = c .before .bit-length .ensures in
     (delta-room b (a .v) (a .wait) (sized b (a .v) (e .0) (c .before .before .before .pre .1) (c .before .before .before .pre .2)) (e .0) (c .before .before .before .pre .0), e .1, omega (arith, e .2))
 
-sub-push : tie.Need-sub-push
-sub-push c = search needs
-
-shl-push : tie.Need-shl-push
-shl-push c = search needs
-
 sub-push-2 : tie.Need-sub-push-2
 sub-push-2 c =
     let a = c .before .before .before .before .before .before .before .args in
     let b = c .before .before .before .before .before .bit-length .result in
     rest-there b (a .v) (sized b (a .v) (c .before .before .before .before .before .bit-length .ensures .0) (c .before .before .before .before .before .before .before .pre .1) (c .before .before .before .before .before .before .before .pre .2))
-
-sub-push-3 : tie.Need-sub-push-3
-sub-push-3 c = search needs
 
 push-requires : tie.Need-push-requires
 push-requires c κs =
@@ -37,9 +25,6 @@ push-requires c κs =
     let e = c .before .before .before .before .before .bit-length .ensures in
     let s = sized b (a .v) (e .0) (c .before .before .before .before .before .before .before .pre .1) (c .before .before .before .before .before .before .before .pre .2) in
     (delta-room-2 b (a .v) (a .wait) s (e .0) (c .before .before .before .push-gamma .result) (a .out .now) (c .before .before .before .push-gamma .last .0) (c .before .before .before .push-gamma .ensures) (c .before .before .before .before .before .before .before .pre .0), rest-small b (a .v) s, omega (arith, e .2))
-
-same-length : tie.Need-same-length
-same-length c = search needs
 
 returns : tie.Need-returns
 returns c =
@@ -52,12 +37,12 @@ pub push-delta-spec : {M : Type 1} → statement M
 push-delta-spec =
     tie.close
     (tie.spec
-    bit-length-requires
+    (λ c κs. search needs)  -- bit-length-requires
     push-gamma-requires
-    sub-push
-    shl-push
+    (λ c. search needs)  -- sub-push
+    (λ c. search needs)  -- shl-push
     sub-push-2
-    sub-push-3
+    (λ c. search needs)  -- sub-push-3
     push-requires
-    same-length
+    (λ c. search needs)  -- same-length
     returns)

@@ -8,32 +8,20 @@ use borrow.Author.Needs.{needs}
 use Rattle.elias.proofs.output.push_word.Statement.{statement}
 use Rattle.elias.proofs.output.push_word.Tie as tie
 
-enum-told : tie.Need-enum-told
-enum-told c = search needs
-
 push-gamma-requires : tie.Need-push-gamma-requires
 push-gamma-requires c κs =
     let a = c .before .before .before .before .args in
     (subst (λ (f : Form). Free (a .wait) (length (bitsOfWord f (a .v)))) (c .before .enum-told .given .1) (c .before .before .before .before .pre .0), c .before .before .before .before .pre .1, c .before .before .before .before .pre .2)
-
-enum-told-2 : tie.Need-enum-told-2
-enum-told-2 c = search needs
 
 push-delta-requires : tie.Need-push-delta-requires
 push-delta-requires c κs =
     let a = c .before .before .before .before .args in
     (subst (λ (f : Form). Free (a .wait) (length (bitsOfWord f (a .v)))) (c .before .enum-told2 .given .1) (c .before .before .before .before .pre .0), c .before .before .before .before .pre .1, c .before .before .before .before .pre .2)
 
-same-length : tie.Need-same-length
-same-length c = search needs
-
 returns : tie.Need-returns
 returns c =
     let a = c .before .before .before .before .before .before .before .args in
     subst (λ (f : Form). Pushed (bitsOfWord f (a .v)) (a .wait) (a .out .now) (c .before .before .push-gamma .last .0) (c .before .before .push-gamma .result)) (sym (c .before .before .before .before .enum-told .given .1)) (c .before .before .push-gamma .ensures)
-
-same-length-2 : tie.Need-same-length-2
-same-length-2 c = search needs
 
 returns-2 : tie.Need-returns-2
 returns-2 c =
@@ -44,11 +32,11 @@ pub push-word-spec : {M : Type 1} → statement M
 push-word-spec =
     tie.close
     (tie.spec
-    enum-told
+    (λ c. search needs)  -- enum-told
     push-gamma-requires
-    enum-told-2
+    (λ c. search needs)  -- enum-told-2
     push-delta-requires
-    same-length
+    (λ c. search needs)  -- same-length
     returns
-    same-length-2
+    (λ c. search needs)  -- same-length-2
     returns-2)

@@ -49,15 +49,6 @@ bounds c =
     let left = bits-left (a .p) (a .body .now) in
     record { some = b .some; few = b .few; within = omega (arith, b .within); rest = omega (arith, length-drop (size c) (bits c)) }
 
-gamma-in-requires : tie.Need-gamma-in-requires
-gamma-in-requires c κs = search needs
-
-enum-known-first : tie.Need-enum-known-first
-enum-known-first c = search needs
-
-enum-told : tie.Need-enum-told
-enum-told c = search needs
-
 returns : tie.Need-returns
 returns c =
     let read : tie.After-gamma-in = search in
@@ -67,12 +58,6 @@ returns c =
 
 sub-n : tie.Need-sub-n
 sub-n c = omega (arith, bounds (c .before))
-
-mul-left : tie.Need-mul-left
-mul-left c = search needs
-
-sub-left : tie.Need-sub-left
-sub-left c = search needs
 
 sub-if1 : tie.Need-sub-if1
 sub-if1 c = bounds (c .before) .within
@@ -108,12 +93,6 @@ add-within c =
           (omega (arith, enough .if1 .left, bits-left q s, bounds read .within)) (c .take-bits .ensures) (below-drop 2 q (bitsOf s) (bits-below s));
     }
 
-add-within-2 : tie.Need-add-within-2
-add-within-2 c = search needs
-
-within-requires : tie.Need-within-requires
-within-requires c κs = search needs
-
 returns-3 : tie.Need-returns-3
 returns-3 c =
     let rest : tie.After-take-bits = search in
@@ -130,19 +109,19 @@ pub delta-at-spec : {M : Type 1} → statement M
 delta-at-spec =
     tie.close
     (tie.spec
-    gamma-in-requires
-    enum-known-first
-    enum-told
+    (λ c κs. search needs)  -- gamma-in-requires
+    (λ c. search needs)  -- enum-known-first
+    (λ c. search needs)  -- enum-told
     returns
     sub-n
-    mul-left
-    sub-left
+    (λ c. search needs)  -- mul-left
+    (λ c. search needs)  -- sub-left
     sub-if1
     returns-2
     shl-within
     add-take-bits
     take-bits-requires
     add-within
-    add-within-2
-    within-requires
+    (λ c. search needs)  -- add-within-2
+    (λ c κs. search needs)  -- within-requires
     returns-3)

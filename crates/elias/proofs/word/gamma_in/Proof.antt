@@ -27,9 +27,6 @@ there : (c : tie.Else2) → 2 * leadingZeros 64 (looked-of c .peek .result) + 1 
 unfolding start-of looked-of
 there c = let start : tie.Start = search in omega (arith, c .if2 .left, bits-left (start .args .p) (start .args .body .now))
 
-peek-requires : tie.Need-peek-requires
-peek-requires c κs = search needs
-
 cast-z : tie.Need-cast-z
 cast-z c = omega (arith, leading-le 64 (c .peek .result))
 
@@ -40,18 +37,6 @@ returns c =
     let a = start .args in
     seen-many (looked .peek .result) (bits start) (omega (arith, looked .peek .ok)) (looked .peek .ensures) (a .zeros) (a .most) (start .pre .2) (c .if1 .taken)
 
-mul-size : tie.Need-mul-size
-mul-size c = search needs
-
-add-size : tie.Need-add-size
-add-size c = search needs
-
-mul-left : tie.Need-mul-left
-mul-left c = search needs
-
-sub-left : tie.Need-sub-left
-sub-left c = search needs
-
 returns-2 : tie.Need-returns-2
 returns-2 c =
     let few : tie.Else1 = search in
@@ -60,12 +45,6 @@ returns-2 c =
     let a = start .args in
     seen-short (looked .peek .result) (bits start) (omega (arith, looked .peek .ok)) (looked .peek .ensures) (a .zeros) (a .most) (start .pre .2)
     (few .if1 .left) (omega (arith, c .if2 .taken, bits-left (a .p) (a .body .now)))
-
-top-requires : tie.Need-top-requires
-top-requires c κs = search needs
-
-within-requires : tie.Need-within-requires
-within-requires c κs = search needs
 
 returns-3 : tie.Need-returns-3
 unfolding start-of looked-of
@@ -83,18 +62,6 @@ returns-3 c =
     (value .top .result) (there long)
     (seen-behind s (bits start) (omega (arith, looked .peek .ok)) (looked .peek .ensures) (value .top .result) (seen .if3 .taken) (there long)
     (value .top .ensures))
-
-add-take-bits : tie.Need-add-take-bits
-add-take-bits c = search needs
-
-add-take-bits-2 : tie.Need-add-take-bits-2
-add-take-bits-2 c = search needs
-
-take-bits-requires : tie.Need-take-bits-requires
-take-bits-requires c κs = search needs
-
-within-requires-2 : tie.Need-within-requires-2
-within-requires-2 c κs = search needs
 
 returns-4 : tie.Need-returns-4
 unfolding start-of looked-of
@@ -115,19 +82,19 @@ pub gamma-in-spec : {M : Type 1} → statement M
 gamma-in-spec =
     tie.close
     (tie.spec
-    peek-requires
+    (λ c κs. search needs)  -- peek-requires
     cast-z
     returns
-    mul-size
-    add-size
-    mul-left
-    sub-left
+    (λ c. search needs)  -- mul-size
+    (λ c. search needs)  -- add-size
+    (λ c. search needs)  -- mul-left
+    (λ c. search needs)  -- sub-left
     returns-2
-    top-requires
-    within-requires
+    (λ c κs. search needs)  -- top-requires
+    (λ c κs. search needs)  -- within-requires
     returns-3
-    add-take-bits
-    add-take-bits-2
-    take-bits-requires
-    within-requires-2
+    (λ c. search needs)  -- add-take-bits
+    (λ c. search needs)  -- add-take-bits-2
+    (λ c κs. search needs)  -- take-bits-requires
+    (λ c κs. search needs)  -- within-requires-2
     returns-4)

@@ -12,26 +12,11 @@ use borrow.Author.Needs.{needs}
 use Rattle.elias.proofs.word.word_at.Statement.{statement}
 use Rattle.elias.proofs.word.word_at.Tie as tie
 
-mul-if1 : tie.Need-mul-if1
-mul-if1 c = search needs
-
 returns : tie.Need-returns
 returns c =
     let a = c .before .before .args in
     let l = bitsOf (a .body .now) in
     word-none (a .form) (drop (a .p) l) (omega (arith, bits-left (a .p) (a .body .now)))
-
-enum-told : tie.Need-enum-told
-enum-told c = search needs
-
-gamma-in-requires : tie.Need-gamma-in-requires
-gamma-in-requires c κs = search needs
-
-enum-told-2 : tie.Need-enum-told-2
-enum-told-2 c = search needs
-
-delta-at-requires : tie.Need-delta-at-requires
-delta-at-requires c κs = search needs
 
 returns-2 : tie.Need-returns-2
 unfolding gammaWord
@@ -48,11 +33,11 @@ pub word-at-spec : {M : Type 1} → statement M
 word-at-spec =
     tie.close
     (tie.spec
-    mul-if1
+    (λ c. search needs)  -- mul-if1
     returns
-    enum-told
-    gamma-in-requires
-    enum-told-2
-    delta-at-requires
+    (λ c. search needs)  -- enum-told
+    (λ c κs. search needs)  -- gamma-in-requires
+    (λ c. search needs)  -- enum-told-2
+    (λ c κs. search needs)  -- delta-at-requires
     returns-2
     returns-3)

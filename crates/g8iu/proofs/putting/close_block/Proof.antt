@@ -16,29 +16,8 @@ Inv-loop out₀ at control used i₀ out i = ZerosSo out₀ at used out i
 abbrev μ-loop : tie.MeasureT-loop
 μ-loop out₀ at control used i₀ out i = 8 - i
 
-cast-put : tie.Need-cast-put Inv-loop μ-loop
-cast-put c = search needs
-
-put-requires : tie.Need-put-requires Inv-loop μ-loop
-put-requires c κs = search needs
-
 loop-holds : tie.Need-loop-holds Inv-loop μ-loop
 loop-holds c = record { low = omega arith; high = omega arith; long = refl; rest = refl }
-
-add-put : tie.Need-add-put Inv-loop μ-loop
-add-put c = search needs
-
-add-put-2 : tie.Need-add-put-2 Inv-loop μ-loop
-add-put-2 c = search needs
-
-put-requires-2 : tie.Need-put-requires-2 Inv-loop μ-loop
-put-requires-2 c κs = search needs
-
-add-i : tie.Need-add-i Inv-loop μ-loop
-add-i c = search needs
-
-loop-less : tie.Need-loop-less Inv-loop μ-loop
-loop-less c = search needs
 
 loop-again : tie.Need-loop-again Inv-loop μ-loop
 loop-again c = zeros-turn _ _ _ _ _ (c .before .before .before .before .before .loop .inv) _ (c .before .before .before .before .loop-test .taken) (c .before .before .put2 .ensures)
@@ -59,14 +38,14 @@ close-block-spec =
     (tie.spec
     Inv-loop
     μ-loop
-    cast-put
-    put-requires
+    (λ c. search needs)  -- cast-put
+    (λ c κs. search needs)  -- put-requires
     loop-holds
-    add-put
-    add-put-2
-    put-requires-2
-    add-i
-    loop-less
+    (λ c. search needs)  -- add-put
+    (λ c. search needs)  -- add-put-2
+    (λ c κs. search needs)  -- put-requires-2
+    (λ c. search needs)  -- add-i
+    (λ c. search needs)  -- loop-less
     loop-again
     same-length
     returns)

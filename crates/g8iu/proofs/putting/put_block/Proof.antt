@@ -26,14 +26,8 @@ closing c =
     let so = c .loop .inv .0 in
     (c .before .before .before .pre .2, control-fits _ _ _ _ _ _ _ _ _ so, used-few _ _ _ _ _ _ _ _ _ so)
 
-mul-x : tie.Need-mul-x Inv-loop μ-loop
-mul-x c = search needs
-
 shared-slice-read-x : tie.Need-shared-slice-read-x Inv-loop μ-loop
 shared-slice-read-x c = omega arith
-
-byte-length-requires : tie.Need-byte-length-requires Inv-loop μ-loop
-byte-length-requires c κs = search needs
 
 -- a number's length, and how many bytes are used before it
 sized : (c : tie.After-byte-length Inv-loop μ-loop) → (1 ≤ c .byte-length .result) × (c .byte-length .result ≤ 4) × (c .before .before .before .loop .used ≤ 8)
@@ -106,9 +100,9 @@ put-block-spec =
     Inv-loop
     μ-loop
     loop-holds
-    mul-x
+    (λ c. search needs)  -- mul-x
     shared-slice-read-x
-    byte-length-requires
+    (λ c κs. search needs)  -- byte-length-requires
     add-filled
     close-block-requires
     same-length

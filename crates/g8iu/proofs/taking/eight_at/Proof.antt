@@ -5,27 +5,6 @@ use Rattle.g8iu.proofs.Masks.{words-number}
 use Rattle.g8iu.proofs.taking.eight_at.Statement.{statement}
 use Rattle.g8iu.proofs.taking.eight_at.Tie as tie
 
-word-at-requires : tie.Need-word-at-requires
-word-at-requires c κs = search needs
-
-add-word-at : tie.Need-add-word-at
-add-word-at c = search needs
-
-word-at-requires-2 : tie.Need-word-at-requires-2
-word-at-requires-2 c κs = search needs
-
-cast-result : tie.Need-cast-result
-cast-result c = search needs
-
-cast-result-2 : tie.Need-cast-result-2
-cast-result-2 c = search needs
-
-mul-result : tie.Need-mul-result
-mul-result c = search needs
-
-add-result : tie.Need-add-result
-add-result c = search needs
-
 returns : tie.Need-returns
 returns c =
     let start : tie.Start = search in
@@ -36,11 +15,11 @@ pub eight-at-spec : {M : Type 1} → statement M
 eight-at-spec =
     tie.close
     (tie.spec
-    word-at-requires
-    add-word-at
-    word-at-requires-2
-    cast-result
-    cast-result-2
-    mul-result
-    add-result
+    (λ c κs. search needs)  -- word-at-requires
+    (λ c. search needs)  -- add-word-at
+    (λ c κs. search needs)  -- word-at-requires-2
+    (λ c. search needs)  -- cast-result
+    (λ c. search needs)  -- cast-result-2
+    (λ c. search needs)  -- mul-result
+    (λ c. search needs)  -- add-result
     returns)

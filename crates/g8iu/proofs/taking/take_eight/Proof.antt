@@ -25,9 +25,6 @@ add-wide c = omega arith
 shared-slice-read-wide : tie.Need-shared-slice-read-wide Inv-loop μ-loop
 shared-slice-read-wide c = omega arith
 
-wide-requires : tie.Need-wide-requires Inv-loop μ-loop
-wide-requires c κs = search needs
-
 add-out : tie.Need-add-out Inv-loop μ-loop
 add-out c = omega arith
 
@@ -61,7 +58,7 @@ take-eight-spec =
     loop-holds
     add-wide
     shared-slice-read-wide
-    wide-requires
+    (λ c κs. search needs)  -- wide-requires
     add-out
     mul-out
     slice-write-out

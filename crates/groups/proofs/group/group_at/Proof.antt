@@ -20,29 +20,14 @@ abbrev μ-loop : tie.MeasureT-loop
 abbrev At : (tie.InvT-loop → tie.MeasureT-loop → Type 0) → Type 0
 At point = point Inv-loop μ-loop
 
-faulty-requires : tie.Need-faulty-requires Inv-loop μ-loop
-faulty-requires c κs = search needs
-
 returns : tie.Need-returns Inv-loop μ-loop
 returns c =
     let start : At tie.Start = search in
     let a = start .args in
     reads-none (a .data-at) (a .body .now) (a .left) (a .at) (c .before .if1 .taken) (c .faulty .ensures)
 
-lesser-requires : tie.Need-lesser-requires Inv-loop μ-loop
-lesser-requires c κs = search needs
-
 data-of-requires : tie.Need-data-of-requires Inv-loop μ-loop
 data-of-requires c κs = omega arith
-
-shared-slice-read-wide : tie.Need-shared-slice-read-wide Inv-loop μ-loop
-shared-slice-read-wide c = search needs
-
-wide-requires : tie.Need-wide-requires Inv-loop μ-loop
-wide-requires c κs = search needs
-
-cast-control : tie.Need-cast-control Inv-loop μ-loop
-cast-control c = search needs
 
 loop-holds : tie.Need-loop-holds Inv-loop μ-loop
 loop-holds c =
@@ -56,12 +41,6 @@ loop-holds c =
 add-len : tie.Need-add-len Inv-loop μ-loop
 add-len c = omega arith
 
-bytes-from-requires : tie.Need-bytes-from-requires Inv-loop μ-loop
-bytes-from-requires c κs = search needs
-
-faulty-requires-2 : tie.Need-faulty-requires-2 Inv-loop μ-loop
-faulty-requires-2 c κs = search needs
-
 returns-2 : tie.Need-returns-2 Inv-loop μ-loop
 returns-2 c =
     let measured : At tie.After-bytes-from = search in
@@ -72,12 +51,6 @@ number-at-requires : tie.Need-number-at-requires Inv-loop μ-loop
 number-at-requires c κs =
     let measured : At tie.After-bytes-from = search in
     (omega arith, omega arith, omega arith)
-
-byte-length-requires : tie.Need-byte-length-requires Inv-loop μ-loop
-byte-length-requires c κs = search needs
-
-faulty-requires-3 : tie.Need-faulty-requires-3 Inv-loop μ-loop
-faulty-requires-3 c κs = search needs
 
 returns-3 : tie.Need-returns-3 Inv-loop μ-loop
 returns-3 c =
@@ -121,9 +94,6 @@ loop-again c =
     reads-turn (turn .before .loop .inv) (turn .loop-test .taken) refl (number .number-at .ensures) (omega arith)
     (sym (long .byte-length .ensures) ∙ c .if3 .left)
 
-faulty-requires-4 : tie.Need-faulty-requires-4 Inv-loop μ-loop
-faulty-requires-4 c κs = search needs
-
 returns-4 : tie.Need-returns-4 Inv-loop μ-loop
 returns-4 c =
     let done : At tie.After-loop = search in
@@ -145,21 +115,21 @@ group-at-spec =
     (tie.spec
     Inv-loop
     μ-loop
-    faulty-requires
+    (λ c κs. search needs)  -- faulty-requires
     returns
-    lesser-requires
+    (λ c κs. search needs)  -- lesser-requires
     data-of-requires
-    shared-slice-read-wide
-    wide-requires
-    cast-control
+    (λ c. search needs)  -- shared-slice-read-wide
+    (λ c κs. search needs)  -- wide-requires
+    (λ c. search needs)  -- cast-control
     loop-holds
     add-len
-    bytes-from-requires
-    faulty-requires-2
+    (λ c κs. search needs)  -- bytes-from-requires
+    (λ c κs. search needs)  -- faulty-requires-2
     returns-2
     number-at-requires
-    byte-length-requires
-    faulty-requires-3
+    (λ c κs. search needs)  -- byte-length-requires
+    (λ c κs. search needs)  -- faulty-requires-3
     returns-3
     mul-numbers
     array-write-numbers
@@ -167,7 +137,7 @@ group-at-spec =
     add-i
     loop-less
     loop-again
-    faulty-requires-4
+    (λ c κs. search needs)  -- faulty-requires-4
     returns-4
     next-of-requires
     returns-5)

@@ -25,33 +25,12 @@ loop-holds c =
     let a = start .args in
     put-start (controlsOf (a .list .now)) (a .from .number) (a .n) (a .at .byte) (a .out .now)
 
-sub-lesser : tie.Need-sub-lesser Inv-loop μ-loop
-sub-lesser c = search needs
-
-lesser-requires : tie.Need-lesser-requires Inv-loop μ-loop
-lesser-requires c κs = search needs
-
-add-place : tie.Need-add-place Inv-loop μ-loop
-add-place c = search needs
-
-control-of-requires : tie.Need-control-of-requires Inv-loop μ-loop
-control-of-requires c κs = search needs
-
-put-requires : tie.Need-put-requires Inv-loop μ-loop
-put-requires c κs = search needs
-
 add-to : tie.Need-add-to Inv-loop μ-loop
 add-to c =
     let turn : At tie.In-loop = search in
     let start : At tie.Start = search in
     let a = start .args in
     omega (arith, turn .before .loop .inv, controls-bound (a .list .now) (a .from .number) (a .n) (start .pre .0), start .pre .1)
-
-add-i : tie.Need-add-i Inv-loop μ-loop
-add-i c = search needs
-
-loop-less : tie.Need-loop-less Inv-loop μ-loop
-loop-less c = search needs
 
 loop-again : tie.Need-loop-again Inv-loop μ-loop
 loop-again c =
@@ -82,14 +61,14 @@ put-controls-spec =
     Inv-loop
     μ-loop
     loop-holds
-    sub-lesser
-    lesser-requires
-    add-place
-    control-of-requires
-    put-requires
+    (λ c. search needs)  -- sub-lesser
+    (λ c κs. search needs)  -- lesser-requires
+    (λ c. search needs)  -- add-place
+    (λ c κs. search needs)  -- control-of-requires
+    (λ c κs. search needs)  -- put-requires
     add-to
-    add-i
-    loop-less
+    (λ c. search needs)  -- add-i
+    (λ c. search needs)  -- loop-less
     loop-again
     same-length
     returns)

@@ -26,27 +26,12 @@ loop-holds c =
     let a = start .args in
     put-start (fieldsOf (a .list .now)) (a .from .number) (a .n) (a .at .byte) (a .out .now)
 
-add-put-fewest : tie.Need-add-put-fewest Inv-loop μ-loop
-add-put-fewest c = search needs
-
-mul-put-fewest : tie.Need-mul-put-fewest Inv-loop μ-loop
-mul-put-fewest c = search needs
-
-shared-slice-read-put-fewest : tie.Need-shared-slice-read-put-fewest Inv-loop μ-loop
-shared-slice-read-put-fewest c = search needs
-
 put-fewest-requires : tie.Need-put-fewest-requires Inv-loop μ-loop
 put-fewest-requires c κs =
     let turn : At tie.In-loop = search in
     let start : At tie.Start = search in
     let a = start .args in
     omega (arith, turn .before .loop .inv, fields-bound (a .list .now) (a .from .number) (a .n) (start .pre .0))
-
-add-i : tie.Need-add-i Inv-loop μ-loop
-add-i c = search needs
-
-loop-less : tie.Need-loop-less Inv-loop μ-loop
-loop-less c = search needs
 
 loop-again : tie.Need-loop-again Inv-loop μ-loop
 loop-again c =
@@ -74,12 +59,12 @@ put-fields-spec =
     Inv-loop
     μ-loop
     loop-holds
-    add-put-fewest
-    mul-put-fewest
-    shared-slice-read-put-fewest
+    (λ c. search needs)  -- add-put-fewest
+    (λ c. search needs)  -- mul-put-fewest
+    (λ c. search needs)  -- shared-slice-read-put-fewest
     put-fewest-requires
-    add-i
-    loop-less
+    (λ c. search needs)  -- add-i
+    (λ c. search needs)  -- loop-less
     loop-again
     same-length
     returns)

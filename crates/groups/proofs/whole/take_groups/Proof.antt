@@ -22,12 +22,6 @@ abbrev μ-loop : tie.MeasureT-loop
 abbrev At : (tie.InvT-loop → tie.MeasureT-loop → Type 0) → Type 0
 At point = point Inv-loop μ-loop
 
-bytes-from-requires : tie.Need-bytes-from-requires Inv-loop μ-loop
-bytes-from-requires c κs = search needs
-
-lesser-requires : tie.Need-lesser-requires Inv-loop μ-loop
-lesser-requires c κs = search needs
-
 loop-holds : tie.Need-loop-holds Inv-loop μ-loop
 loop-holds c =
     let start : At tie.Start = search in
@@ -46,12 +40,6 @@ shared-slice-read-wide : tie.Need-shared-slice-read-wide Inv-loop μ-loop
 shared-slice-read-wide c =
     let measured : At tie.After-bytes-from = search in
     omega arith
-
-wide-requires : tie.Need-wide-requires Inv-loop μ-loop
-wide-requires c κs = search needs
-
-cast-c : tie.Need-cast-c Inv-loop μ-loop
-cast-c c = search needs
 
 add-take-whole : tie.Need-add-take-whole Inv-loop μ-loop
 add-take-whole c =
@@ -115,9 +103,6 @@ loop-again-3 c =
 mul-taken : tie.Need-mul-taken Inv-loop μ-loop
 mul-taken c = omega arith
 
-taken-requires : tie.Need-taken-requires Inv-loop μ-loop
-taken-requires c κs = search needs
-
 same-length : tie.Need-same-length Inv-loop μ-loop
 same-length c =
     let done : At tie.At-loop = search in
@@ -134,14 +119,14 @@ take-groups-spec =
     (tie.spec
     Inv-loop
     μ-loop
-    bytes-from-requires
-    lesser-requires
+    (λ c κs. search needs)  -- bytes-from-requires
+    (λ c κs. search needs)  -- lesser-requires
     loop-holds
     loop-less
     loop-again
     shared-slice-read-wide
-    wide-requires
-    cast-c
+    (λ c κs. search needs)  -- wide-requires
+    (λ c. search needs)  -- cast-c
     add-take-whole
     mul-take-whole
     add-take-whole-2
@@ -152,6 +137,6 @@ take-groups-spec =
     loop-less-3
     loop-again-3
     mul-taken
-    taken-requires
+    (λ c κs. search needs)  -- taken-requires
     same-length
     returns)

@@ -22,15 +22,6 @@ abbrev μ-loop : tie.MeasureT-loop
 abbrev At : (tie.InvT-loop → tie.MeasureT-loop → Type 0) → Type 0
 At point = point Inv-loop μ-loop
 
-bytes-from-requires : tie.Need-bytes-from-requires Inv-loop μ-loop
-bytes-from-requires c κs = search needs
-
-lesser-requires : tie.Need-lesser-requires Inv-loop μ-loop
-lesser-requires c κs = search needs
-
-taken-requires : tie.Need-taken-requires Inv-loop μ-loop
-taken-requires c κs = search needs
-
 returns : tie.Need-returns Inv-loop μ-loop
 returns c =
     let start : At tie.Start = search in
@@ -54,12 +45,6 @@ shared-slice-read-wide : tie.Need-shared-slice-read-wide Inv-loop μ-loop
 shared-slice-read-wide c =
     let measured : At tie.After-bytes-from = search in
     omega arith
-
-wide-requires : tie.Need-wide-requires Inv-loop μ-loop
-wide-requires c κs = search needs
-
-cast-c : tie.Need-cast-c Inv-loop μ-loop
-cast-c c = search needs
 
 mul-take-whole : tie.Need-mul-take-whole Inv-loop μ-loop
 mul-take-whole c =
@@ -96,9 +81,6 @@ loop-again-2 c =
     let turn : At tie.In-loop = search in
     (whole-stop stream-by (turn .before .loop .inv .0) (group .take-whole .ensures .left (c .if3 .taken)), turn .before .loop .inv .1)
 
-add-control : tie.Need-add-control Inv-loop μ-loop
-add-control c = search needs
-
 add-units : tie.Need-add-units Inv-loop μ-loop
 add-units c =
     let turn : At tie.In-loop = search in
@@ -123,12 +105,6 @@ loop-again-3 c =
 mul-taken : tie.Need-mul-taken Inv-loop μ-loop
 mul-taken c = omega arith
 
-taken-requires-2 : tie.Need-taken-requires-2 Inv-loop μ-loop
-taken-requires-2 c κs = search needs
-
-same-length : tie.Need-same-length Inv-loop μ-loop
-same-length c = search needs
-
 returns-2 : tie.Need-returns-2 Inv-loop μ-loop
 returns-2 c =
     let done : At tie.At-loop = search in
@@ -140,26 +116,26 @@ take-stream-spec =
     (tie.spec
     Inv-loop
     μ-loop
-    bytes-from-requires
-    lesser-requires
-    taken-requires
+    (λ c κs. search needs)  -- bytes-from-requires
+    (λ c κs. search needs)  -- lesser-requires
+    (λ c κs. search needs)  -- taken-requires
     returns
     loop-holds
     loop-less
     loop-again
     shared-slice-read-wide
-    wide-requires
-    cast-c
+    (λ c κs. search needs)  -- wide-requires
+    (λ c. search needs)  -- cast-c
     mul-take-whole
     add-take-whole
     take-whole-requires
     loop-less-2
     loop-again-2
-    add-control
+    (λ c. search needs)  -- add-control
     add-units
     loop-less-3
     loop-again-3
     mul-taken
-    taken-requires-2
-    same-length
+    (λ c κs. search needs)  -- taken-requires-2
+    (λ c. search needs)  -- same-length
     returns-2)

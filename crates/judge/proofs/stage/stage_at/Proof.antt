@@ -7,23 +7,11 @@ use Rattle.judge.proofs.stage.stage_at.Tie as tie
 returns : tie.Need-returns
 returns c = stage-end _ _ _ (c .if1 .taken)
 
-shared-slice-read-b : tie.Need-shared-slice-read-b
-shared-slice-read-b c = search needs
-
-is-code-requires : tie.Need-is-code-requires
-is-code-requires c κs = search needs
-
 returns-2 : tie.Need-returns-2
 returns-2 c = stage-code _ _ _ _ (c .before .is-code .ensures) (c .if2 .taken)
 
 returns-3 : tie.Need-returns-3
 returns-3 c = stage-none _ _ _ _ (c .before .before .is-code .ensures) (c .before .if2 .left) (c .if3 .taken)
-
-add-after : tie.Need-add-after
-add-after c = search needs
-
-sub-less : tie.Need-sub-less
-sub-less c = search needs
 
 returns-4 : tie.Need-returns-4
 returns-4 c = stage-16 _ _ _ _ (c .before .before .before .is-code .ensures) (c .before .before .if2 .left) (c .before .if3 .left) (c .match .keys1)
@@ -44,12 +32,12 @@ stage-at-spec =
     tie.close
     (tie.spec
     returns
-    shared-slice-read-b
-    is-code-requires
+    (λ c. search needs)  -- shared-slice-read-b
+    (λ c κs. search needs)  -- is-code-requires
     returns-2
     returns-3
-    add-after
-    sub-less
+    (λ c. search needs)  -- add-after
+    (λ c. search needs)  -- sub-less
     returns-4
     returns-5
     returns-6

@@ -7,33 +7,6 @@ use Rattle.judge.proofs.TreeLaws.{worst-else}
 use Rattle.judge.proofs.tree.worst_code.Statement.{statement}
 use Rattle.judge.proofs.tree.worst_code.Tie as tie
 
-mul-result : tie.Need-mul-result
-mul-result c = search needs
-
-worst-groups-requires : tie.Need-worst-groups-requires
-worst-groups-requires c κs = search needs
-
-add-result : tie.Need-add-result
-add-result c = search needs
-
-mul-result-2 : tie.Need-mul-result-2
-mul-result-2 c = search needs
-
-worst-groups-requires-2 : tie.Need-worst-groups-requires-2
-worst-groups-requires-2 c κs = search needs
-
-mul-result-3 : tie.Need-mul-result-3
-mul-result-3 c = search needs
-
-add-result-2 : tie.Need-add-result-2
-add-result-2 c = search needs
-
-mul-result-4 : tie.Need-mul-result-4
-mul-result-4 c = search needs
-
-add-result-3 : tie.Need-add-result-3
-add-result-3 c = search needs
-
 returns : tie.Need-returns
 unfolding codeOf
 returns c = sym (ap (λ (k : ℕ). codeOf k .worst (c .before .args .n)) (c .match .keys1))
@@ -63,15 +36,15 @@ pub worst-code-spec : {M : Type 1} → statement M
 worst-code-spec =
     tie.close
     (tie.spec
-    mul-result
-    worst-groups-requires
-    add-result
-    mul-result-2
-    worst-groups-requires-2
-    mul-result-3
-    add-result-2
-    mul-result-4
-    add-result-3
+    (λ c. search needs)  -- mul-result
+    (λ c κs. search needs)  -- worst-groups-requires
+    (λ c. search needs)  -- add-result
+    (λ c. search needs)  -- mul-result-2
+    (λ c κs. search needs)  -- worst-groups-requires-2
+    (λ c. search needs)  -- mul-result-3
+    (λ c. search needs)  -- add-result-2
+    (λ c. search needs)  -- mul-result-4
+    (λ c. search needs)  -- add-result-3
     returns
     returns-2
     returns-3
