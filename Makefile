@@ -1,11 +1,11 @@
-# `make` shows the board and the listing of a sample sheet, `make test` is the gate, `make lib` writes the C library
+# `make` proves the two programs, a line a crate, and shows the board and the listing of a sample night, `make test` is the gate, `make lib` writes the C library
 # (target/staticlib/libcapi.a for include/pelluvion.h), `make bench` counts what it costs beside plain C.
 .PHONY: all test lib bench
 
 all:
-	rt check board listing
-	./run.sh board < samples/night.sheet
-	./run.sh listing < samples/night.sheet
+	@python3 prove.py board listing
+	@echo && echo "The board of samples/night.sheet:" && ./run.sh board < samples/night.sheet
+	@echo && echo "Its listing begins:" && ./run.sh listing < samples/night.sheet | head -12
 
 test:
 	bash .ci/run

@@ -144,12 +144,16 @@ def case_write():
          answer(lambda: R.write(made, joined, work, room), listed))
 
 
-def case_sheet():
+def drawn_sheet():
     try:
         sheet = R.write(*orders(), 100, 1000)
     except R.Refused:
         sheet = b"\x01\x00"
-    sheet = damaged(sheet) if RANDOM.random() < 0.6 else sheet
+    return damaged(sheet) if RANDOM.random() < 0.6 else sheet
+
+
+def case_sheet():
+    sheet = drawn_sheet()
     work, column, place, call = RANDOM.choice([0, 14, 16, 24, 100, 100, 100]), RANDOM.randint(0, 2), RANDOM.randint(0, 3), RANDOM.randint(0, 3)
     shown = listed(sheet)
     says("check %s %d" % (shown, work), verdict(lambda: R.check(sheet, work), lambda _: "passed"))
@@ -161,6 +165,37 @@ def case_sheet():
     tally = "record { passed = %d; failed = %d; unended = %d }"
     told = verdict(lambda: R.board(sheet, work), lambda t: "passed, " + tally % t)
     says("countBoard %s %d" % (shown, work), "(%s)" % (told if told.startswith("passed") else told + ", " + tally % (0, 0, 0)))
+
+
+def programs(given):
+    says("listingText %s" % listed(given), listed(R.listing(given)))
+    says("boardText %s" % listed(given), listed(R.board_text(given)))
+
+
+def changed(sheet, at, value):
+    return sheet[:at] + bytes([value]) + sheet[at + 1:]
+
+
+def case_programs():
+    """The document's listing, its refusals, the board's rules, columns and places of two digits; then sheets as drawn."""
+    def sheet(*columns):
+        return R.write([(kind, fill(p), len(xs)) for kind, p, xs in columns], [x for _, _, xs in columns for x in xs], 7 * 1024, 65536)
+
+    example, jobs = sheet((1, [17, 1], [5, 5, 133])), (1, [17, 1], [3, 4, 9, 10])
+    board = sheet(jobs, (0, [1], [0, 1, 255, 256]))
+    whole = [b"", b"\1", b"\1\0", b"\2\0", b"\1\x11", example, example[:20], example + b"\0", board]
+    # kind 2; an unknown number in a plan, one after its end; differences of kind 0; a last byte of 0; the same in column 1
+    whole += [changed(example, at, value) for at, value in ((2, 2), (4, 9), (6, 1), (2, 0), (29, 0))]
+    whole += [changed(board, at, value) for at, value in ((26, 2), (27, 7), (len(board) - 1, 0))] + [changed(sheet(jobs, jobs), 26, 0)]
+    whole += [sheet(jobs, (kind, [1], endings)) for kind, endings in ((1, [0, 0, 0, 256]), (0, [0, 1, 255, 257]), (0, [0, 1, 255]))]
+    whole += [sheet((kind, [1], xs), (0, [1], [0] * len(xs))) for kind, xs in ((1, []), (0, [3, 4]), (1, [3, 4, 4]))]
+    whole += [sheet(*[(0, [18, 16, code % 6 + 1, 5], [LARGEST, code]) for code in range(12)]), sheet((0, [2], list(range(95, 107))))]
+    whole.append(sheet((1, [17, 18, 1, 1], list(range(1, 1025))), (0, [18, 1, 1], 1024 * [256])))
+    for given in whole + [drawn_sheet() for _ in range(CASES // 20)]:
+        programs(given)
+    for program in "listing", "board":          # what `rt check` holds the programs to
+        given, printed = [open(os.path.join(ROOT, "crates", program, name), "rb").read() for name in ("stdin", "stdout")]
+        says("%sText %s" % (program, listed(given)), listed(printed))
 
 
 def text():
@@ -181,6 +216,7 @@ def text():
 def main():
     for i in range(CASES):
         [case_code, case_judge, case_plan, case_write, case_sheet][i % 5]()
+    case_programs()
     shutil.rmtree(PLACE, ignore_errors=True)
     os.makedirs(os.path.join(PLACE, "crates/cases/src"))
     os.makedirs(os.path.join(PLACE, "crates/cases/specs"))

@@ -1,31 +1,17 @@
 -- Where a body stands in a sheet. Assumes nothing.
-use Prim.Native.Nat.{ℕ, zero, suc, _+_, _≤_}
+use Prim.Native.Nat.{ℕ}
 use mathlib.Core.Path.{_≡_, sym, ap, _∙_}
-use mathlib.Core.List.{List, [], _∷_, map}
+use mathlib.Core.List.{List}
 use native.Mathlib.Omega.{arith}
-use lib.ListN.{length, take, drop}
+use lib.ListN.{length}
 use Rattle.meaning.specs.Answer.{given, refused, number, list}
-use Rattle.meaning.specs.Lists.{sum}
 use Rattle.meaning.specs.Operations.{column, fetch}
-use Rattle.meaning.specs.Sheet.{columnsOf, columnAt}
+use Rattle.meaning.specs.Sheet.{columnAt, bodyBegins}
 use Rattle.table.specs.Entries.{Opened}
-use Rattle.table.specs.Offsets.{columnCount, bodyOffset}
 use Rattle.table.specs.declared.Entry.{Entry}
-use Rattle.table.proofs.Columns.{sizes-from}
 use Rattle.table.proofs.ColumnLaws.{column-here, fetch-refused}
 use Rattle.table.proofs.Sounds.{sound-column}
-use Rattle.capi.specs.Told.{bodyBegins, offsetOf, Fetches}
-
--- a sum is that of the first elements and that of the rest
-sum-split : {A : Type 0} (f : A → ℕ) (k : ℕ) (cs : List A) → sum (map f (take k cs)) + sum (map f (drop k cs)) ≡ sum (map f cs)
-unfolding sum
-sum-split f zero cs = omega arith
-sum-split f (suc k) [] = omega arith
-sum-split f (suc k) (c ∷ cs) = omega (arith, sum-split f k cs)
-
--- the table's own offset of a body, from which its part is cut
-begins-so : (sheet : List ℕ) (k : ℕ) → k ≤ columnCount sheet → bodyOffset sheet k ≡ bodyBegins sheet k
-begins-so sheet k h = omega (arith, sum-split (λ c. c .size) k (columnsOf sheet), sizes-from sheet k h)
+use Rattle.capi.specs.Told.{offsetOf, Fetches}
 
 module _ (sheet : List ℕ) (k : ℕ) where
   body-given : (e : Entry) → Opened sheet k e → fetch sheet k ≡ given (columnAt sheet k .body)
@@ -39,7 +25,7 @@ module _ (sheet : List ℕ) (k : ℕ) where
       let f = body-given e o in
       record {
         returned = sym (ap number f);
-        offset = o .entry .bodyBegins ∙ begins-so sheet k (omega arith) ∙ sym (ap (λ a. offsetOf a (bodyBegins sheet k)) f);
+        offset = o .entry .begins ∙ sym (ap (λ a. offsetOf a (bodyBegins sheet k)) f);
         size = o .entry .size ∙ sym (sound-column sheet (here .sounds) k below .long) ∙ sym (ap (λ a. length (list a)) f);
         part = o .entry .body ∙ sym (ap list f);
         inside = o .entry .bodyFits;

@@ -1,12 +1,11 @@
 -- An answer as a C caller is told it: the refusal's number is returned, 0 is accepted, and the rest comes through pointers, 0 on refusal.
 use Prim.Native.Nat.{ℕ, _+_, _≤_}
 use mathlib.Core.Path.{_≡_}
-use mathlib.Core.List.{List, map}
+use mathlib.Core.List.{List}
 use lib.ListN.{length, take, drop}
 use Rattle.meaning.specs.Answer.{Answer, given, refused, number, list, amount, filled, Verdict, passed, blamed}
-use Rattle.meaning.specs.Lists.{sum}
 use Rattle.meaning.specs.Operations.{fetch}
-use Rattle.meaning.specs.Sheet.{tableSize, columnsOf}
+use Rattle.meaning.specs.Sheet.{bodyBegins}
 use Rattle.meaning.specs.declared.Tally.{Tally}
 
 -- the number that was given; a refusal comes with 0
@@ -46,10 +45,6 @@ pub record Tallies (b : Verdict × Tally) (r k p f u : ℕ) : Type 0 where
   pub passed : p ≡ b .1 .passed
   pub failed : f ≡ b .1 .failed
   pub unended : u ≡ b .1 .unended
-
--- where column k's body begins: after the table and the bodies before it
-abbrev pub bodyBegins : List ℕ → ℕ → ℕ
-bodyBegins sheet k = tableSize sheet + sum (map (λ c. c .size) (take k (columnsOf sheet)))
 
 -- the offset that is told with a body
 abbrev pub offsetOf : Answer (List ℕ) → ℕ → ℕ

@@ -1,14 +1,14 @@
 -- What a walk knows that looks numbers up, and the first numbers that it lays into work. Assumes nothing.
-use Prim.Native.Nat.{ℕ, _+_, _-_, _≤_, _<_, min, max}
+use Prim.Native.Nat.{ℕ, _+_, _-_, _≤_, _<_, min}
 use mathlib.Core.Path.{_≡_, refl, sym, ap, ap₂, _∙_}
 use mathlib.Core.List.{List}
 use native.Mathlib.Nat.{zero-add}
 use native.Mathlib.Omega.{arith}
 use lib.ListN.{length, getD, take, drop, length-take}
 use lib.Seq.{sets, length-sets, getD-take, getD-drop}
-use Rattle.meaning.specs.Answer.{Answer, given, refused, bind}
+use Rattle.meaning.specs.Answer.{Answer, given, refused}
 use Rattle.meaning.specs.Codes.{Code, codeOf, lookCode}
-use Rattle.meaning.specs.Limits.{mostBytes, unitPlaces}
+use Rattle.meaning.specs.Limits.{mostBytes}
 use Rattle.meaning.specs.Places.{Below}
 use Rattle.meaning.specs.Units.{lookUnits}
 use Rattle.meaning.specs.declared.Position.{Position}

@@ -1,12 +1,10 @@
 -- Which code a number is, and that each code is lawful. Assumes nothing.
 use Prim.Native.Nat.{ℕ}
 use mathlib.Core.Path.{_≡_, refl}
-use mathlib.Core.Bool.{Bool, true, false, cond}
 use mathlib.Core.List.{List}
 use borrow.Author.Tests.{ne-eqb}
-use lib.Dec.{eqb}
 use Rattle.meaning.specs.Answer.{given}
-use Rattle.meaning.specs.Codes.{Code, codeOf, codeVByte, codeGroups, codeG8IU, codeStream, codeGamma, codeDelta}
+use Rattle.meaning.specs.Codes.{codeOf, codeVByte, codeGroups, codeG8IU, codeStream, codeGamma, codeDelta}
 use Rattle.meaning.specs.Elias.{doneElias}
 use Rattle.meaning.specs.Places.{Spare}
 use Rattle.meaning.specs.Positions.{atByte}

@@ -1,20 +1,19 @@
 -- What the walk of a strict reading knows. Assumes nothing.
 use Prim.Native.Nat.{ℕ, _+_, _-_, _^_, _≤_, _<_}
 use mathlib.Core.Path.{_≡_, refl, sym, ap, _∙_}
-use mathlib.Core.Bool.{Bool, true, false}
+use mathlib.Core.Bool.{true, false}
 use mathlib.Core.List.{List, []}
-use native.Mathlib.Nat.{zero-add, add-zero}
+use native.Mathlib.Nat.{add-zero}
 use native.Mathlib.Omega.{arith}
 use borrow.Author.Tests.{lt-ltb, le-ltb}
-use lib.Dec.{ltb}
 use lib.ListN.{length, getD, take, drop}
 use lib.Seq.{sets, take-all, getD-take, getD-drop}
-use Rattle.meaning.specs.Answer.{Answer, given, refused, bind, need, amount}
-use Rattle.meaning.specs.Codes.{Code, codeOf, readCode}
+use Rattle.meaning.specs.Answer.{Answer, given, refused, bind, amount}
+use Rattle.meaning.specs.Codes.{codeOf, readCode}
 use Rattle.meaning.specs.Fields.{byteLength}
-use Rattle.meaning.specs.Limits.{mostBytes, fault}
+use Rattle.meaning.specs.Limits.{fault}
 use Rattle.meaning.specs.Places.{Below, Spare, Target, Got}
-use Rattle.meaning.specs.Units.{readUnits, Stretch, none, more}
+use Rattle.meaning.specs.Units.{readUnits}
 use Rattle.meaning.specs.declared.Position.{Position}
 use Rattle.meaning.specs.declared.Reading.the-variants.{Whole, Refused}
 use Rattle.meaning.specs.declared.Taken.{Taken}

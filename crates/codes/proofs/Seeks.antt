@@ -1,13 +1,11 @@
 -- A run sought by the lengths that a code holds, stretch by stretch. Assumes nothing.
-use Prim.Native.Nat.{ℕ, zero, suc, _+_, _-_, _≤_, _<_}
-use mathlib.Core.Path.{_≡_, refl, sym, ap, _∙_}
-use mathlib.Core.Bool.{Bool, true, false}
+use Prim.Native.Nat.{ℕ, _+_, _-_, _≤_, _<_}
+use mathlib.Core.Path.{_≡_, ap, _∙_}
 use mathlib.Core.List.{List}
-use native.Mathlib.Nat.{add-zero, sub-zero}
+use native.Mathlib.Nat.{sub-zero}
 use native.Mathlib.Omega.{arith}
-use borrow.Author.Tests.{lt-ltb, le-ltb, le-leb, lt-leb}
-use lib.ListN.{length, getD}
-use Rattle.meaning.specs.Answer.{Answer, given, refused}
+use lib.ListN.{length}
+use Rattle.meaning.specs.Answer.{given, refused}
 use Rattle.meaning.specs.Codes.{codeOf, lookCode}
 use Rattle.meaning.specs.Limits.{fault}
 use Rattle.meaning.specs.Stages.{seek}

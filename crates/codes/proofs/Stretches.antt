@@ -1,19 +1,19 @@
 -- What a stretch of units answers: what was taken, or the one unit that was read. Assumes nothing.
 use Prim.Native.Nat.{ℕ, _+_, _-_, _≤_, _<_, min}
 use mathlib.Core.Path.{_≡_, refl, sym, ap, _∙_}
-use mathlib.Core.List.{List, [], _∷_, _++_}
+use mathlib.Core.List.{List, [], _∷_}
 use native.Mathlib.Nat.{sub-zero}
 use native.Mathlib.Numerals.{add-one}
 use native.Mathlib.Omega.{arith}
 use borrow.Author.Tests.{lt-ltb}
-use lib.ListN.{length, getD, take, drop, set, length-take}
+use lib.ListN.{length, getD, take, set, length-take}
 use lib.Seq.{sets, length-sets, length-take-le, take-suc, take-all, take-take}
 use Rattle.meaning.specs.Answer.{Answer, given, refused}
 use Rattle.meaning.specs.Codes.{Code}
 use Rattle.meaning.specs.Limits.{unitPlaces}
 use Rattle.meaning.specs.Places.{Below, UnitIs, Took, Spare}
 use Rattle.meaning.specs.Says.{unitSays, unitCount, unitRefusal}
-use Rattle.meaning.specs.Units.{Stretch, none, more}
+use Rattle.meaning.specs.Units.{none, more}
 use Rattle.meaning.specs.declared.Position.{Position}
 use Rattle.meaning.specs.declared.Taken.{Taken}
 use Rattle.meaning.specs.declared.Unit.the-variants.{Next, Refused}

@@ -18,8 +18,7 @@ use stages::Sought;
 use stages::seek_in;
 use stages::total_of;
 ghost use mathlib.Core.Path.{_≡_};
-ghost use Prim.Native.Nat.{_+_, _*_, _^_, _<_, _≤_};
-ghost use lib.ListN.{length, take};
+ghost use Prim.Native.Nat.{_+_, _<_, _≤_};
 ghost use Rattle.meaning.specs.Codes.{codeOf, lookCode};
 ghost use Rattle.meaning.specs.Says.{foundSays};
 ghost use Rattle.meaning.specs.Stages.{total, seek};
@@ -75,14 +74,14 @@ pub fn total_code(code: u8, body: &[u8], n: usize, place: Place) -> Total
         return Total::Refused(start_refusal(started));
     };
     let most = unit_most(code);
-    let mut numbers = [0u32; 128];
+    let mut numbers = [0u32; 192];
     let start = Place { number: 0 };
     let mut at = first;
     let mut passed: usize = 0;
     let mut s: u64 = 0;
     loop {
         let here = goal - passed;
-        let room = lesser(128, here + most);
+        let room = lesser(192, here + most);
         let went = stretch(code, body, n - passed, at, &mut numbers, start, room);
         let Went::On(taken) = went else {
             return Total::Refused(went_refusal(went));

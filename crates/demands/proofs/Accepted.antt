@@ -8,7 +8,7 @@ use lib.Dec.{leb}
 use lib.ListN.{length, getD, drop}
 use borrow.Author.Tests.{leb-true}
 use Rattle.meaning.specs.Answer.{Answer, given, Verdict, passed, blamed, inTurn, after}
-use Rattle.meaning.specs.Limits.{numberLimit, mostColumns, mostNumbers, mostBytes, rising, badOrders, falls, shortWork, noRoom}
+use Rattle.meaning.specs.Limits.{numberLimit, mostColumns, mostNumbers, mostBytes, rising, badOrders, fallen, shortWork, noRoom}
 use Rattle.meaning.specs.Lists.{all, largest}
 use Rattle.meaning.specs.Operations.{Order, listedBy, ordersHold, writeListed, writeSheet, check, numbersAt}
 use Rattle.meaning.specs.Places.{Below}
@@ -79,7 +79,7 @@ accepted orders numbers work room bytes e =
     let ls = listedBy orders numbers in
     let (h, e₁) = need-given (ordersHold orders numbers) badOrders _ bytes e in
     let (j, e₂) = after-given (inTurn listJudged 0 ls) _ bytes e₁ in
-    let (r, e₃) = need-given (all listRises ls) falls _ bytes e₂ in
+    let (r, e₃) = need-given (all listRises ls) fallen _ bytes e₂ in
     let (w, e₄) = need-given (leb (7 * largest (map (λ (c : Listed). length (c .numbers)) ls)) work) shortWork _ bytes e₃ in
     let (s, e₅) = need-given (leb (length (sheetBytes ls)) mostBytes && leb (length (sheetBytes ls)) room) noRoom (given (sheetBytes ls)) bytes e₄ in
     let same : sheetBytes ls ≡ bytes = cc in

@@ -11,11 +11,10 @@ use Rattle.meaning.specs.Lists.{all, largest}
 use Rattle.meaning.specs.Operations.{ordersHold, ordersOf, writeSheet, writeApart, check, readSheet, lookSheet, numbersAt}
 use Rattle.meaning.specs.Places.{Below}
 use Rattle.meaning.specs.Says.{sizedSays, readingSays, foundSays}
-use Rattle.meaning.specs.Sheet.{Listed, sheetBytes, worstSheet, columnAt, largestCount}
+use Rattle.meaning.specs.Sheet.{Listed, sheetBytes, worstSheet, columnAt, largestCount, columnCount}
 use Rattle.meaning.specs.declared.Sized.{Sized}
 use Rattle.meaning.specs.declared.Reading.{Reading}
 use Rattle.meaning.specs.declared.Found.{Found}
-use Rattle.table.specs.Offsets.{columnCount}
 use Rattle.writer.specs.Orders.{listJudged, listRises, columnsBy}
 use Rattle.sheet.proofs.Passing.{reads-all, looks-all}
 use Rattle.demands.specs.Own.{ownKinds, ownPlans, ownCounts, ownNumbers}
@@ -30,6 +29,13 @@ pub wrote : (a : Answer (List ℕ)) (bytes : List ℕ) (r : Sized) (out out′ :
     → (sizedSays r ≡ given (length bytes)) × (out′ ≡ bytes ++ drop (length bytes) out)
 wrote a bytes r out out′ e w = (w .0 ∙ ap amount e, w .1 ∙ ap (λ (x : Answer (List ℕ)). filled x out) e)
 
+-- slices that are as long together as orders are: the writer on orders taken apart is the writer on those orders
+pub apart-is : (kinds plans counts numbers : List ℕ) (work room : ℕ) → length plans ≡ planBytes * length kinds → length counts ≡ length kinds
+    → writeApart kinds plans counts numbers work room ≡ writeSheet (ordersOf kinds plans counts) numbers work room
+unfolding writeApart
+apart-is kinds plans counts numbers work room planned counted =
+    rw (eq-eqb (length plans) (planBytes * length kinds) planned, eq-eqb (length counts) (length kinds) counted)
+
 -- ---- demand 3: within the limits nothing is stuck
 module _ (kinds plans counts numbers : List ℕ) (work out : List ℕ)
     (small : Below numberLimit numbers)
@@ -40,10 +46,6 @@ module _ (kinds plans counts numbers : List ℕ) (work out : List ℕ)
     (enough : 7 * largest (map (λ (c : Listed). length (c .numbers)) (columnsBy kinds plans counts numbers)) ≤ length work)
     (short : worstSheet (columnsBy kinds plans counts numbers) ≤ mostBytes)
     (fits : worstSheet (columnsBy kinds plans counts numbers) ≤ length out) where
-  apart : writeApart kinds plans counts numbers (length work) (length out) ≡ writeSheet (ordersOf kinds plans counts) numbers (length work) (length out)
-  unfolding writeApart
-  apart = rw (eq-eqb (length plans) (planBytes * length kinds) planned, eq-eqb (length counts) (length kinds) counted)
-
   pub never-stuck-apart : NeverStuck (ordersOf kinds plans counts) numbers (length work) (length out)
   never-stuck-apart = never-stuck (ordersOf kinds plans counts) numbers (length work) (length out) small holds judged risen enough short fits
 
@@ -52,7 +54,8 @@ module _ (kinds plans counts numbers : List ℕ) (work out : List ℕ)
       → (sizedSays r ≡ given (length (sheetBytes (columnsBy kinds plans counts numbers))))
       × (out′ ≡ sheetBytes (columnsBy kinds plans counts numbers) ++ drop (length (sheetBytes (columnsBy kinds plans counts numbers))) out)
   write-answers r out′ w =
-      wrote (writeApart kinds plans counts numbers (length work) (length out)) (sheetBytes (columnsBy kinds plans counts numbers)) r out out′ (apart ∙ never-stuck-apart .written) w
+      wrote (writeApart kinds plans counts numbers (length work) (length out)) (sheetBytes (columnsBy kinds plans counts numbers)) r out out′
+      (apart-is kinds plans counts numbers (length work) (length out) planned counted ∙ never-stuck-apart .written) w
 
 module _ (sheet : List ℕ) (bytes : Below 256 sheet) (checkWork : ℕ) (passes : check sheet checkWork ≡ passed) where
   -- ---- demand 2: what `writer::write` answers and leaves, called with a sheet's own kinds, plans, counts and lists

@@ -12,12 +12,11 @@ use Rattle.meaning.specs.Operations.{listedBy, ordersHold, writeSheet, check, o
 use Rattle.meaning.specs.Operations.{Order as OrderMeant}
 use Rattle.meaning.specs.Places.{Below}
 use Rattle.meaning.specs.Says.{sizedSays}
-use Rattle.meaning.specs.Sheet.{Listed, sheetBytes, worstSheet, Column, columnsOf, columnAt, largestCount}
+use Rattle.meaning.specs.Sheet.{Listed, sheetBytes, worstSheet, Column, columnsOf, columnAt, largestCount, columnCount}
 use Rattle.meaning.specs.declared.Sized.{Sized}
 use Rattle.orders.specs.Orders.{orderSays}
 use Rattle.orders.specs.declared.Order.{Order}
 use Rattle.reader.proofs.Openings.{open-there}
-use Rattle.table.specs.Offsets.{columnCount}
 use Rattle.table.proofs.ColumnLaws.{column-there}
 use Rattle.writer.specs.Orders.{listJudged, listRises}
 use Rattle.sheet.proofs.Checks.{check-passed}

@@ -7,20 +7,20 @@ use native.Mathlib.Omega.{arith}
 use lib.Dec.{eqb}
 use lib.ListN.{length, getD}
 use borrow.Author.Tests.{eqb-true}
-use Rattle.meaning.specs.Answer.{given, list, passed}
+use Rattle.meaning.specs.Answer.{given, passed}
 use Rattle.meaning.specs.Codes.{isCode}
 use Rattle.meaning.specs.Limits.{mostNumbers, planBytes, rising, fault}
 use Rattle.meaning.specs.Lists.{all}
 use Rattle.meaning.specs.Operations.{check, numbersAt}
 use Rattle.meaning.specs.Places.{Below}
 use Rattle.meaning.specs.Plan.{planOf, planAt, good, wellFormed, judgePlan, planUsed}
-use Rattle.meaning.specs.Sheet.{ofKind, bodyOf, Column, columnsOf, columnAt, readColumn}
+use Rattle.meaning.specs.Sheet.{ofKind, bodyOf, Column, columnsOf, columnAt, readColumn, columnCount}
 use Rattle.meaning.specs.Stages.{read}
 use Rattle.meaning.proofs.Answers.{bind-given, need-given}
 use Rattle.meaning.proofs.Tests.{both-true}
 use Rattle.codes.proofs.Numbered.{laws}
 use Rattle.stages.proofs.Back.{back}
-use Rattle.table.specs.Offsets.{columnCount, blankColumn}
+use Rattle.table.specs.Offsets.{blankColumn}
 use Rattle.table.proofs.Columns.{column-count}
 use Rattle.table.proofs.Sounds.{sound-column}
 use Rattle.writer.proofs.Entries.{used-given}

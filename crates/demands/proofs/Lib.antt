@@ -9,3 +9,9 @@ pub mod Faults
 pub mod Refusals
 pub mod Answered
 pub mod Fronts
+pub mod WrittenBytes
+pub mod Contracts
+pub mod Forms
+pub mod EndToEnd
+pub mod Demands
+pub mod Supposed

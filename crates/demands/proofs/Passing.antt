@@ -5,16 +5,15 @@ use mathlib.Core.Bool.{true, _&&_}
 use mathlib.Core.List.{List, [], _∷_, map}
 use native.Mathlib.Omega.{arith}
 use lib.Dec.{leb, eqb}
-use lib.ListN.{length, getD, length-append}
+use lib.ListN.{length, getD, length-append, length-map}
 use borrow.Author.Tests.{le-leb, eq-eqb}
 use Rattle.meaning.specs.Answer.{Answer, given, list, passed, inTurn}
 use Rattle.meaning.specs.Limits.{numberLimit, mostColumns, mostNumbers, mostBytes, rising}
 use Rattle.meaning.specs.Lists.{all, sum, joined, largest}
 use Rattle.meaning.specs.Operations.{check, numbersAt}
 use Rattle.meaning.specs.Places.{Below}
-use Rattle.meaning.specs.Plan.{planOf, passes, judgePlan}
-use Rattle.meaning.specs.Sheet.{Listed, ofKind, bodyOf, sheetBytes, Column, columnsOf, columnAt, isSheet, tableHolds, sound, readColumn, largestCount, tableSize}
-use Rattle.meaning.specs.Stages.{read}
+use Rattle.meaning.specs.Plan.{planOf, judgePlan}
+use Rattle.meaning.specs.Sheet.{Listed, ofKind, bodyOf, columnFor, assemble, sheetBytes, Column, columnsOf, columnAt, isSheet, tableHolds, sound, readColumn, checkColumn, largestCount, tableSize}
 use Rattle.meaning.proofs.Tests.{true-both}
 use Rattle.codes.proofs.Numbered.{laws}
 use Rattle.stages.proofs.Forth.{forth-plan}
@@ -25,7 +24,6 @@ use Rattle.table.proofs.Sounds.{plan-passed, by-plans}
 use Rattle.writer.specs.Orders.{blankListed}
 use Rattle.writer.proofs.Worst.{judged-long}
 use Rattle.sheet.proofs.Checks.{check-bodies}
-use Rattle.demands.specs.Own.{columnFor}
 use Rattle.demands.proofs.Columns.{Fits, written-columns, written-size}
 
 -- a column within the limits, of its kind, under a plan that is passed for it
@@ -108,8 +106,8 @@ module _ (ls : List Listed) (writable : AllWritable ls) where
 
   module _ (few : length ls ≤ mostColumns) (short : length (sheetBytes ls) ≤ mostBytes) where
     edition : eqb (getD (sheetBytes ls) 0 0) 1 && leb (getD (sheetBytes ls) 1 0) mostColumns ≡ true
-    unfolding sheetBytes
-    edition = le-leb (length ls) mostColumns few
+    unfolding sheetBytes assemble
+    edition = le-leb (length (map columnFor ls)) mostColumns (omega (arith, length-map ls columnFor))
 
     a-sheet : isSheet (sheetBytes ls) ≡ true
     unfolding isSheet
@@ -133,7 +131,8 @@ module _ (ls : List Listed) (writable : AllWritable ls) where
         ∙ all-turn planJudged columnFor 0 blankListed ls (λ k h. (tt, writable k h .judged))
 
     pub written-passes : (work : ℕ) → 8 * largest (map (λ (l : Listed). length (l .numbers)) ls) ≤ work → check (sheetBytes ls) work ≡ passed
+    unfolding checkColumn
     written-passes work h =
         check-bodies (sheetBytes ls) work written-sound (omega (arith, written-largest))
-        ∙ ap (inTurn readColumn 0) columns
-        ∙ all-turn readColumn columnFor 0 blankListed ls (λ k l. (getD ls k blankListed .numbers, column-back (getD ls k blankListed) (writable k l)))
+        ∙ ap (inTurn checkColumn 0) columns
+        ∙ all-turn checkColumn columnFor 0 blankListed ls (λ k l. (getD ls k blankListed .numbers, column-back (getD ls k blankListed) (writable k l)))

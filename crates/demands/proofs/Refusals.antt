@@ -8,17 +8,17 @@ use lib.Dec.{leb, ltb, eqb}
 use lib.ListN.{length}
 use borrow.Author.Tests.{eqb-true, leb-true}
 use Rattle.meaning.specs.Answer.{Answer, given, refused, bind, need, number, Verdict, passed, blamed, _then_, ask, inTurn, after}
-use Rattle.meaning.specs.Limits.{mostNumbers, mostBytes, planBytes, rising, fault, noSheet, badTable, badPlan, unfitPlan, noColumn, noPlace, noRoom, shortWork, falls, badOrders, badBoard}
+use Rattle.meaning.specs.Limits.{mostNumbers, mostBytes, planBytes, rising, fault, noSheet, badTable, badPlan, unfitPlan, noColumn, noPlace, noRoom, shortWork, fallen, badOrders, badBoard}
 use Rattle.meaning.specs.Lists.{all, largest}
 use Rattle.meaning.specs.Operations.{Order, listedBy, ordersHold, writeListed, writeSheet, ordersOf, writeApart, check, column, readSheet, lookSheet, fetch, openReader, numbersAt, boardHolds, boardVerdict, tallied, countBoard}
 use Rattle.meaning.specs.Plan.{planOf, wellFormed, passes, judgePlan, judge, worstSize}
-use Rattle.meaning.specs.Sheet.{Listed, sheetBytes, Column, columnsOf, isSheet, tableHolds, sound, readColumn, largestCount}
+use Rattle.meaning.specs.Sheet.{Listed, sheetBytes, Column, columnsOf, isSheet, tableHolds, sound, readColumn, checkColumn, largestCount}
 use Rattle.meaning.specs.Stages.{look}
 use Rattle.meaning.proofs.Answers.{Faulty}
 use Rattle.meaning.proofs.Tests.{both-true, by-test}
 use Rattle.table.proofs.InTurn.{turn-passed, turn-refused}
 use Rattle.writer.specs.Orders.{listJudged, listRises}
-use Rattle.demands.specs.Refusals.{among, RefusesBy, BlamesBy}
+use Rattle.demands.specs.Refusals.{among, RefusesBy, BlamesBy, refusal}
 use Rattle.demands.proofs.Faults.{column-faulty, look-faulty}
 
 -- ---- what may refuse, part by part
@@ -72,11 +72,11 @@ module _ (es : List ℕ) where
     column-by five k = by-after (sound sheet) _ sound-by (by-need (ltb k (length (columnsOf sheet))) noColumn _ five tt)
 
     check-by : among shortWork es ≡ true → among fault es ≡ true → (work : ℕ) → BlamesBy es (check sheet work)
-    unfolding check
+    unfolding check checkColumn
     check-by eight nine work =
         by-then (sound sheet) _ sound-by
         (by-then (ask (leb (8 * largestCount sheet) work) shortWork) _ (by-ask (leb (8 * largestCount sheet) work) shortWork eight)
-        (by-turn readColumn (λ c. by-fault (readColumn c) nine (column-faulty c)) 0 (columnsOf sheet)))
+        (by-turn checkColumn (λ c. by-fault (readColumn c) nine (column-faulty c)) 0 (columnsOf sheet)))
 
 -- ---- the operations
 pub judge-refusals : (kind : ℕ) (plan : List ℕ) → RefusesBy (3 ∷ 4 ∷ 11 ∷ []) (judge kind plan)
@@ -96,7 +96,7 @@ write-refusals orders numbers work room =
     let ls = listedBy orders numbers in
     by-need writing (ordersHold orders numbers) badOrders _ refl
     (by-after writing (inTurn listJudged 0 ls) _ (by-turn writing listJudged (λ l. plan-by writing refl refl (l .kind) (l .plan)) 0 ls)
-    (by-need writing (all listRises ls) falls _ refl
+    (by-need writing (all listRises ls) fallen _ refl
     (by-need writing (leb (7 * largest (map (λ (c : Listed). length (c .numbers)) ls)) work) shortWork _ refl
     (by-need writing (leb (length (sheetBytes ls)) mostBytes && leb (length (sheetBytes ls)) room) noRoom _ refl tt))))
 
@@ -150,3 +150,7 @@ among-some e (x ∷ es) h i z =
 pub zero-accepts : {A : Type 0} (es : List ℕ) (m : Answer A) → all (leb 1) es ≡ true → RefusesBy es m → number m ≡ 0 → (a : A) × (m ≡ given a)
 zero-accepts es (given a) h i z = (a, refl)
 zero-accepts es (refused e) h i z = absurd (among-some e es h i z)
+
+pub zero-passes : (es : List ℕ) (v : Verdict) → all (leb 1) es ≡ true → BlamesBy es v → refusal v ≡ 0 → v ≡ passed
+zero-passes es passed h i z = refl
+zero-passes es (blamed e k) h i z = absurd (among-some e es h i z)

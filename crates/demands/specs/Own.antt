@@ -1,11 +1,10 @@
--- A sheet's own orders and lists: what it is written again from. And a column as it stands in a sheet, of what it was written from.
+-- A sheet's own orders and lists: what it is written again from.
 use Prim.Native.Nat.{ℕ}
 use mathlib.Core.List.{List, map}
-use lib.ListN.{length}
 use Rattle.meaning.specs.Answer.{list}
 use Rattle.meaning.specs.Lists.{joined}
 use Rattle.meaning.specs.Operations.{Order}
-use Rattle.meaning.specs.Sheet.{Listed, bodyOf, Column, columnsOf, readColumn}
+use Rattle.meaning.specs.Sheet.{Listed, Column, columnsOf, readColumn}
 
 -- a column's order, and its list
 abbrev pub orderFor : Column → Order
@@ -34,7 +33,3 @@ ownCounts sheet = map (λ c. c .count) (columnsOf sheet)
 -- a column that was read, as one to be written
 abbrev pub listedFor : Column → Listed
 listedFor c = record { kind = c .kind; plan = c .plan; numbers = numbersFor c }
-
--- a column that was written, as one to be read
-abbrev pub columnFor : Listed → Column
-columnFor l = record { kind = l .kind; plan = l .plan; count = length (l .numbers); size = length (bodyOf l); body = bodyOf l }

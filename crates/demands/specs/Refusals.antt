@@ -18,3 +18,13 @@ RefusesBy es (refused e) = among e es ≡ true
 abbrev pub BlamesBy : List ℕ → Verdict → Type 0
 BlamesBy es passed = Unit {0}
 BlamesBy es (blamed e k) = among e es ≡ true
+
+-- an answer as a verdict: whether it gives something
+abbrev pub verdictOf : {A : Type 0} → Answer A → Verdict
+verdictOf (given a) = passed
+verdictOf (refused e) = blamed e 0
+
+-- a verdict's number; passed is number 0
+abbrev pub refusal : Verdict → ℕ
+refusal passed = 0
+refusal (blamed e k) = e

@@ -26,7 +26,7 @@ module _ (n : ℕ) (l : List ℕ) where
   unfolding restIn
   rest-short h = rw (lt-leb n (length l) h)
 
-  pub rest-given : n ≤ length l → numberHigh 1 (take n l) ≤ numberLimit → restIn n l ≡ given (numberHigh 1 (take n l))
+  rest-given : n ≤ length l → numberHigh 1 (take n l) ≤ numberLimit → restIn n l ≡ given (numberHigh 1 (take n l))
   unfolding restIn
   rest-given h o = rw (le-leb n (length l) h, le-leb (numberHigh 1 (take n l)) numberLimit o)
 
@@ -48,7 +48,7 @@ delta-is m v l = rw (l .is) (ap (λ (k : ℕ). gammaBits (suc m) ++ bitsHigh k v
     less : (n : ℕ) → suc n - 1 ≡ n
     less n = omega arith
 
-pub delta-length : (m v : ℕ) → Long m v → length (deltaBits v) ≡ length (gammaBits (suc m)) + m
+delta-length : (m v : ℕ) → Long m v → length (deltaBits v) ≡ length (gammaBits (suc m)) + m
 delta-length m v l =
     ap length (delta-is m v l) ∙ length-append (gammaBits (suc m)) (bitsHigh m v)
     ∙ ap (λ (k : ℕ). length (gammaBits (suc m)) + k) (high-length m v)

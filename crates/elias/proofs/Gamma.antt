@@ -35,7 +35,7 @@ module _ (z most : ℕ) (l : List ℕ) where
   unfolding gammaIn
   in-short h k = rw (le-leb (zerosFirst l) z h, lt-leb (2 * zerosFirst l + 1) (length l) k)
 
-  pub in-given : zerosFirst l ≤ z → 2 * zerosFirst l + 1 ≤ length l → behind (zerosFirst l) l ≤ most
+  in-given : zerosFirst l ≤ z → 2 * zerosFirst l + 1 ≤ length l → behind (zerosFirst l) l ≤ most
       → gammaIn z most l ≡ given (behind (zerosFirst l) l, 2 * zerosFirst l + 1)
   unfolding gammaIn
   in-given h k o = rw (le-leb (zerosFirst l) z h, le-leb (2 * zerosFirst l + 1) (length l) k, le-leb (behind (zerosFirst l) l) most o)

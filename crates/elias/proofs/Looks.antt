@@ -3,31 +3,39 @@ use mathlib.Core.Path.{_≡_, sym, ap, _∙_}
 use Prim.Native.Nat.{ℕ, _+_, _-_, _*_, _%_, _^_, _≤_, _<_}
 use native.Mathlib.Omega.{arith}
 use mathlib.Core.List.{List}
-use borrow.Author.Tests.{le-leb, lt-leb}
+use borrow.Author.Tests.{le-leb}
 use lib.Count.{leadingZeros}
 use lib.Dec.{leb}
 use lib.ListN.{length, take, drop, length-drop}
 use lib.Seq.{take-add, drop-at, drop-drop, length-take-le, take-append-le}
-use Rattle.meaning.specs.Answer.{Answer, given, refused, need}
+use Rattle.meaning.specs.Answer.{Answer, given, need}
 use Rattle.meaning.specs.Bits.{bitsHigh, bitsOf, numberHigh}
 use Rattle.meaning.specs.Elias.{gammaIn, gammaWord, deltaWord}
 use Rattle.meaning.specs.Limits.{fault, numberLimit}
+use Rattle.meaning.proofs.Answers.{not-given}
 use Rattle.meaning.proofs.Bounds.{below-drop}
 use Rattle.elias.specs.Padded.{padded}
+use Rattle.elias.specs.Says.{wordSays, Gives}
 use Rattle.elias.specs.Seen.{Seen}
+use Rattle.elias.specs.declared.word.Codeword.{Codeword}
+use Rattle.elias.specs.declared.word.Codeword.the-variants.{Refused}
 use Rattle.elias.proofs.Gamma.{gamma-back}
 use Rattle.elias.proofs.Numbers.{high-length}
 use Rattle.elias.proofs.Pack.{bits-left, bits-below}
-use Rattle.elias.proofs.Seen.{seen-value, seen-behind, behind-further, delta-refused, delta-value, one-before, one-before-fits}
+use Rattle.elias.proofs.Seen.{seen-value, seen-behind, behind-further, delta-value, one-before, one-before-fits}
 use Rattle.elias.proofs.Windows.{shl-drop, top-list}
 
--- ---- an answer that gives a value v in k bits where it is not too large
-pub record Limited (most v k : ℕ) (answer : Answer (ℕ × ℕ)) : Type 0 where
-  pub large : most < v → refused fault ≡ answer
-  pub told : v ≤ most → given (v, k) ≡ answer
+-- ---- what a quick look gives
+-- all that is told is given
+pub told-gives : {r : Codeword} {a : Answer (ℕ × ℕ)} → wordSays r ≡ a → Gives r a
+told-gives told = record { value = λ e. sym told ∙ ap wordSays e }
 
-limited : (most v k : ℕ) (answer : Answer (ℕ × ℕ)) → need (leb v most) fault (given (v, k)) ≡ answer → Limited most v k answer
-limited most v k answer e = record { large = λ h. rw (lt-leb v most h) at e; told = λ h. rw (le-leb v most h) at e }
+pub stops : {e : ℕ} {a : Answer (ℕ × ℕ)} → Gives (Refused e) a
+stops {e} = record { value = λ r. absurd (not-given e _ (ap wordSays r)) }
+
+-- a value that is not too large is told
+told-small : {most v k : ℕ} {a : Answer (ℕ × ℕ)} → need (leb v most) fault (given (v, k)) ≡ a → v ≤ most → given (v, k) ≡ a
+told-small {most} {v} e h = rw (le-leb v most h) at e
 
 -- ---- gamma
 module _ {body : List ℕ} {p s z : ℕ} (t : Seen 12 32 body p s z) where
@@ -49,12 +57,12 @@ module _ {body : List ℕ} {p s z : ℕ} (t : Seen 12 32 body p s z) where
 
 pub gamma-inside : {body : List ℕ} {p s v : ℕ} → Seen 12 32 body p s (leadingZeros 64 s)
     → v ≡ numberHigh 0 (take (leadingZeros 64 s + 1) (drop (p + leadingZeros 64 s) (bitsOf body)))
-    → Limited numberLimit v (2 * leadingZeros 64 s + 1) (gammaWord (drop p (bitsOf body)))
+    → v ≤ numberLimit → given (v, 2 * leadingZeros 64 s + 1) ≡ gammaWord (drop p (bitsOf body))
 unfolding gammaWord
 gamma-inside {body} {p} {s} {v} t e =
     let l = drop p (bitsOf body) in
     let there : 2 * leadingZeros 64 s + 1 ≤ length l = omega (arith, t .few, t .far, bits-left p body) in
-    limited numberLimit v (2 * leadingZeros 64 s + 1) (gammaIn 32 numberLimit l)
+    told-small
     (seen-value s l (t .fits) (t .bits) 32 numberLimit (omega arith) (t .few) v there (behind-further v p (leadingZeros 64 s) (bitsOf body) e))
 
 -- ---- delta
@@ -84,19 +92,13 @@ module _ {body : List ℕ} {p s : ℕ} (t : Seen 8 5 body p s (leadingZeros 64 s
   there : 57 ≤ length l
   there = omega (arith, t .far, bits-left p body)
 
-  length-said : Limited 33 long size (gammaIn 5 33 l)
-  length-said =
-      let few = t .few in
-      let enough = there in
-      let is = seen-behind s l (t .fits) (t .bits) long (omega arith) (omega arith) e in
-      limited 33 long size (gammaIn 5 33 l) (seen-value s l (t .fits) (t .bits) 5 33 (omega arith) few long (omega arith) is)
-
-  pub length-large : 33 < long → refused fault ≡ deltaWord l
-  length-large h = delta-refused l fault (sym (length-said .large h))
-
   module _ (k : long ≤ 33) where
     length-is : gammaIn 5 33 l ≡ given (long, size)
-    length-is = sym (length-said .told k)
+    length-is =
+        let few = t .few in
+        let enough = there in
+        let is = seen-behind s l (t .fits) (t .bits) long (omega arith) (omega arith) e in
+        sym (told-small (seen-value s l (t .fits) (t .bits) 5 33 (omega arith) few long (omega arith) is) k)
 
     pub length-some : 0 < long
     length-some = gamma-back 5 33 l (long, size) (omega arith) (below-drop 2 p (bitsOf body) (bits-below body)) length-is .some
@@ -114,7 +116,7 @@ module _ {body : List ℕ} {p s : ℕ} (t : Seen 8 5 body p s (leadingZeros 64 s
           one-before-fits (long - 1) r (drop size l) (omega arith) rest-there rest-is
           (below-drop 2 size l (below-drop 2 p (bitsOf body) (bits-below body)))
 
-      pub delta-inside : Limited numberLimit ((1 * 2 ^ (long - 1)) % 2 ^ 64 + r) (size + (long - 1)) (deltaWord l)
+      pub delta-inside : (1 * 2 ^ (long - 1)) % 2 ^ 64 + r ≤ numberLimit → given ((1 * 2 ^ (long - 1)) % 2 ^ 64 + r, size + (long - 1)) ≡ deltaWord l
       delta-inside =
-          limited numberLimit _ (size + (long - 1)) (deltaWord l)
+          told-small
           (delta-value l long size length-is _ rest-there (one-before (long - 1) r (drop size l) (omega arith) rest-there rest-is))

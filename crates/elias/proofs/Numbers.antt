@@ -78,7 +78,8 @@ unfolding numberHigh bitsHigh
 high-number a [] h = refl
 high-number a (b ∷ bs) h =
     let small = number-small bs (λ i. h (suc i)) in
-    let q : numberHigh (a * 2 + b) bs / 2 ^ length bs ≡ a * 2 + b = ap (λ (n : ℕ). n / 2 ^ length bs) (number-after (a * 2 + b) bs) ∙ high (a * 2 + b) (length bs) small in
+    let q : numberHigh (a * 2 + b) bs / 2 ^ length bs ≡ a * 2 + b =
+    ap (λ (n : ℕ). n / 2 ^ length bs) (number-after (a * 2 + b) bs) ∙ high (a * 2 + b) (length bs) small in
     let e : numberHigh (a * 2 + b) bs / 2 ^ length bs % 2 ≡ b = ap (λ (n : ℕ). n % 2) q ∙ odd a b (h 0) in
     ap₂ (λ (x : ℕ) (r : List ℕ). x ∷ r) e (high-number (a * 2 + b) bs (λ i. h (suc i)))
   where

@@ -15,7 +15,7 @@ use Rattle.elias.proofs.Numbers.{high-length, high-bits, high-zeros, hi
 use Rattle.elias.proofs.Padding.{padded-length, padded-below, padded-append, padded-whole, padded-add, padded-there, padded-eight}
 
 -- ---- the bits of bytes
-pub bits-length : (s : List ℕ) → length (bitsOf s) ≡ 8 * length s
+bits-length : (s : List ℕ) → length (bitsOf s) ≡ 8 * length s
 unfolding bitsOf joined
 bits-length [] = refl
 bits-length (x ∷ xs) = length-append (bitsHigh 8 x) (bitsOf xs) ∙ omega (arith, high-length 8 x, bits-length xs)
@@ -46,7 +46,9 @@ bits-padded (suc n) [] =
     ap₂ (λ (a r : List ℕ). a ++ r) (high-zeros 8) (bits-padded n []) ∙ sym (padded-add 8 (8 * n) []) ∙ ap (λ (k : ℕ). padded k []) (sym e)
 bits-padded (suc n) (x ∷ xs) =
     let e : 8 * suc n ≡ length (bitsHigh 8 x) + 8 * n = omega (arith, high-length 8 x) in
-    ap (λ (r : List ℕ). bitsHigh 8 x ++ r) (bits-padded n xs) ∙ sym (padded-append (bitsHigh 8 x) (bitsOf xs) (8 * n)) ∙ ap (λ (k : ℕ). padded k (bitsHigh 8 x ++ bitsOf xs)) (sym e)
+    ap (λ (r : List ℕ). bitsHigh 8 x ++ r) (bits-padded n xs)
+    ∙ sym (padded-append (bitsHigh 8 x) (bitsOf xs) (8 * n))
+    ∙ ap (λ (k : ℕ). padded k (bitsHigh 8 x ++ bitsOf xs)) (sym e)
 
 -- ---- a byte
 pub byte-padded : (l : List ℕ) → byteOf l ≡ numberHigh 0 (padded 8 l)
@@ -106,7 +108,8 @@ unfolding packIn bitsOf joined padded
 in-bits zero l b = refl
 in-bits (suc n) l b =
     let e : 8 * suc n ≡ 8 + 8 * n = omega arith in
-    ap₂ (λ (a r : List ℕ). a ++ r) (byte-bits l b) (in-bits n (drop 8 l) (below-drop 2 8 l b)) ∙ sym (padded-add 8 (8 * n) l) ∙ ap (λ (k : ℕ). padded k l) (sym e)
+    ap₂ (λ (a r : List ℕ). a ++ r) (byte-bits l b) (in-bits n (drop 8 l) (below-drop 2 8 l b))
+    ∙ sym (padded-add 8 (8 * n) l) ∙ ap (λ (k : ℕ). padded k l) (sym e)
 
 abbrev pub spare : List ℕ → ℕ
 spare l = 8 * ((length l + 7) / 8) - length l
@@ -135,6 +138,7 @@ pack-back s h =
 pub packed : (s l : List ℕ) (m : ℕ) → Below 256 s → m < 8 → bitsOf s ≡ l ++ replicate m 0 → pack l ≡ s
 packed s l m h k e =
     let b : Below 2 l = below-left 2 l (replicate m 0) (rw e at (bits-below s)) in
-    let n : 8 * length s ≡ length l + m = sym (bits-length s) ∙ ap length e ∙ length-append l (replicate m 0) ∙ ap (λ (j : ℕ). length l + j) (length-replicate m 0) in
+    let n : 8 * length s ≡ length l + m =
+    sym (bits-length s) ∙ ap length e ∙ length-append l (replicate m 0) ∙ ap (λ (j : ℕ). length l + j) (length-replicate m 0) in
     let same : spare l ≡ m = omega arith in
     sym (pack-back (pack l) (pack-below l b)) ∙ ap pack (pack-bits l b ∙ ap (λ (j : ℕ). l ++ replicate j 0) same ∙ sym e) ∙ pack-back s h

@@ -23,7 +23,7 @@ padded-below m (suc n) [] h (suc i) = padded-below m n [] h i
 padded-below m (suc n) (x ∷ xs) h zero = h 0
 padded-below m (suc n) (x ∷ xs) h (suc i) = padded-below m n xs (λ j. h (suc j)) i
 
-pub padded-none : (n : ℕ) → padded n [] ≡ replicate n 0
+padded-none : (n : ℕ) → padded n [] ≡ replicate n 0
 unfolding padded
 padded-none zero = refl
 padded-none (suc n) = ap (λ (l : List ℕ). 0 ∷ l) (padded-none n)
@@ -70,7 +70,8 @@ padded-next n (x ∷ xs) = refl
 padded-from : (n k i : ℕ) (l : List ℕ) → padded (suc n) (drop (k + i) l) ≡ getD l (k + i) 0 ∷ padded n (drop (k + suc i) l)
 padded-from n k i l =
     padded-next n (drop (k + i) l)
-    ∙ ap₂ (λ (x : ℕ) (r : List ℕ). x ∷ padded n r) (getD-drop (k + i) l 0 0 ∙ ap (λ (j : ℕ). getD l j 0) (add-zero (k + i))) (drop-drop 1 (k + i) l ∙ ap (λ (j : ℕ). drop j l) (further k i))
+    ∙ ap₂ (λ (x : ℕ) (r : List ℕ). x ∷ padded n r) (getD-drop (k + i) l 0 0 ∙ ap (λ (j : ℕ). getD l j 0) (add-zero (k + i)))
+    (drop-drop 1 (k + i) l ∙ ap (λ (j : ℕ). drop j l) (further k i))
   where
     further : (a b : ℕ) → a + b + 1 ≡ a + suc b
     further a b = omega arith
@@ -81,4 +82,5 @@ pub padded-eight : (k : ℕ) (l : List ℕ) → padded 8 (drop k l)
 unfolding padded
 padded-eight k l =
     let first : padded 8 (drop k l) ≡ getD l k 0 ∷ padded 7 (drop (k + 1) l) = rw (add-zero k) at (padded-from 7 k 0 l) in
-    rw (first, padded-from 6 k 1 l, padded-from 5 k 2 l, padded-from 4 k 3 l, padded-from 3 k 4 l, padded-from 2 k 5 l, padded-from 1 k 6 l, padded-from 0 k 7 l)
+    rw (first, padded-from 6 k 1 l, padded-from 5 k 2 l, padded-from 4 k 3 l)
+    (rw (padded-from 3 k 4 l, padded-from 2 k 5 l, padded-from 1 k 6 l, padded-from 0 k 7 l))

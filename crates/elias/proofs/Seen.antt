@@ -40,7 +40,7 @@ module _ (s : ℕ) (l : List ℕ) (fits : s < 2 ^ 64) (seen : take 57 (bitsHigh 
   alike = padded-there 57 (bitsHigh 64 s) (omega (arith, high-length 64 s)) ∙ seen
 
   -- few zeros are the list's own
-  pub seen-zeros : z ≤ 32 → zerosFirst l ≡ z
+  seen-zeros : z ≤ 32 → zerosFirst l ≡ z
   seen-zeros h =
       let e = zeros-leading s fits in
       zeros-agree 57 (bitsHigh 64 s) l alike (omega arith) (omega (arith, high-length 64 s)) .0 ∙ e

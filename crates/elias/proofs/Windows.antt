@@ -36,12 +36,14 @@ eight-bits a b c d e f g h hb hc hd he hf hg hh =
 
 -- those from an offset on
 window-bits : (s : List ℕ) (k : ℕ)
-    → bitsOf (getD s k 0 ∷ getD s (k + 1) 0 ∷ getD s (k + 2) 0 ∷ getD s (k + 3) 0 ∷ getD s (k + 4) 0 ∷ getD s (k + 5) 0 ∷ getD s (k + 6) 0 ∷ getD s (k + 7) 0 ∷ []) ≡ padded 64 (drop (8 * k) (bitsOf s))
+    → bitsOf (getD s k 0 ∷ getD s (k + 1) 0 ∷ getD s (k + 2) 0 ∷ getD s (k + 3) 0
+    ∷ getD s (k + 4) 0 ∷ getD s (k + 5) 0 ∷ getD s (k + 6) 0 ∷ getD s (k + 7) 0 ∷ []) ≡ padded 64 (drop (8 * k) (bitsOf s))
 window-bits s k = ap bitsOf (sym (padded-eight k s)) ∙ bits-padded 8 (drop k s) ∙ ap (padded 64) (bits-drop k s)
 
 -- a number that has these bits, of bytes taken one by one
 pub window-of : (s : List ℕ) (k w a b c d e f g h : ℕ) → bitsHigh 64 w ≡ bitsOf (a ∷ b ∷ c ∷ d ∷ e ∷ f ∷ g ∷ h ∷ [])
-    → a ≡ getD s k 0 → b ≡ getD s (k + 1) 0 → c ≡ getD s (k + 2) 0 → d ≡ getD s (k + 3) 0 → e ≡ getD s (k + 4) 0 → f ≡ getD s (k + 5) 0 → g ≡ getD s (k + 6) 0 → h ≡ getD s (k + 7) 0
+    → a ≡ getD s k 0 → b ≡ getD s (k + 1) 0 → c ≡ getD s (k + 2) 0 → d ≡ getD s (k + 3) 0
+    → e ≡ getD s (k + 4) 0 → f ≡ getD s (k + 5) 0 → g ≡ getD s (k + 6) 0 → h ≡ getD s (k + 7) 0
     → bitsHigh 64 w ≡ padded 64 (drop (8 * k) (bitsOf s))
 window-of s k w a b c d e f g h is ea eb ec ed ee ef eg eh = is ∙ rw (ea, eb, ec, ed, ee, ef, eg, eh) (window-bits s k)
 
@@ -83,11 +85,12 @@ peek-at n m k w l en h e =
     ∙ ap (take 57) (after ∙ ap (λ (j : ℕ). padded j (drop k l)) e₅₇)
     ∙ padded-take 57 (m - 57) (drop k l)
 
-pub peek-bits : (w k : ℕ) (l : List ℕ) → k < 8 → bitsHigh 64 w ≡ padded 64 l → take 57 (bitsHigh 64 ((w * 2 ^ k) % 2 ^ 64)) ≡ padded 57 (drop k l)
+peek-bits : (w k : ℕ) (l : List ℕ) → k < 8 → bitsHigh 64 w ≡ padded 64 l → take 57 (bitsHigh 64 ((w * 2 ^ k) % 2 ^ 64)) ≡ padded 57 (drop k l)
 peek-bits w k l h e = peek-at 64 (64 - k) k w l (omega arith) (omega arith) e
 
 -- from the byte that holds a bit
-pub peek-from : (w p : ℕ) (l : List ℕ) → bitsHigh 64 w ≡ padded 64 (drop (8 * (p / 8)) l) → take 57 (bitsHigh 64 ((w * 2 ^ (p % 8)) % 2 ^ 64)) ≡ padded 57 (drop p l)
+pub peek-from : (w p : ℕ) (l : List ℕ) → bitsHigh 64 w ≡ padded 64 (drop (8 * (p / 8)) l)
+    → take 57 (bitsHigh 64 ((w * 2 ^ (p % 8)) % 2 ^ 64)) ≡ padded 57 (drop p l)
 peek-from w p l e =
     let at : 8 * (p / 8) + p % 8 ≡ p = omega arith in
     peek-bits w (p % 8) (drop (8 * (p / 8)) l) (omega arith) e ∙ ap (padded 57) (drop-drop (p % 8) (8 * (p / 8)) l ∙ ap (λ (j : ℕ). drop j l) at)

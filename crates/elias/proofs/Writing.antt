@@ -17,19 +17,20 @@ use Rattle.elias.proofs.Windows.{one-shl}
 
 -- ---- a number of b bits
 pub record Sized (b v : ℕ) : Type 0 where
+  pub is : b ≡ bitLength v
   pub some : 0 < b
   pub few : b ≤ 33
   pub least : 2 ^ (b - 1) ≤ v
   pub below : v < 2 ^ b
 
-pub sized : (b v : ℕ) → b ≡ bitLength v → 0 < v → v ≤ numberLimit → Sized b v
-sized b v e h k =
+pub sized : {b v : ℕ} → b ≡ bitLength v → 0 < v → v ≤ numberLimit → Sized b v
+sized {b} {v} e h k =
     let (m, l) = long-of v h (omega arith) in
     let less : suc m - 1 ≡ m = omega arith in
-    rw (e, l .is) (record { some = omega arith; few = omega (arith, l .short); least = rw less (l .least); below = l .below })
+    rw (e, l .is) (record { is = sym (l .is); some = omega arith; few = omega (arith, l .short); least = rw less (l .least); below = l .below })
 
--- without its leading one
-module _ (b v : ℕ) (s : Sized b v) where
+module _ {b v : ℕ} (s : Sized b v) where
+  -- without its leading one
   abbrev rest : ℕ
   rest = v - (1 * 2 ^ (b - 1)) % 2 ^ 64
 
@@ -48,44 +49,42 @@ module _ (b v : ℕ) (s : Sized b v) where
   rest-bits : bitsHigh (b - 1) rest ≡ bitsHigh (b - 1) v
   rest-bits = ap (λ (x : ℕ). bitsHigh (b - 1) (v - x)) one ∙ without-one (b - 1) v (s .least) double
 
--- ---- the parts of a codeword
-gamma-parts : (b v : ℕ) → b ≡ bitLength v → bitsHigh (b - 1) 0 ++ bitsHigh b v ≡ gammaBits v
-unfolding gammaBits
-gamma-parts b v e = ap (λ (l : List ℕ). l ++ bitsHigh b v) (high-zeros (b - 1)) ∙ rw e
+  -- ---- the parts of its codewords
+  gamma-parts : bitsHigh (b - 1) 0 ++ bitsHigh b v ≡ gammaBits v
+  unfolding gammaBits
+  gamma-parts = ap (λ (l : List ℕ). l ++ bitsHigh b v) (high-zeros (b - 1)) ∙ rw (s .is)
 
-delta-parts : (b v : ℕ) → Sized b v → b ≡ bitLength v → gammaBits b ++ bitsHigh (b - 1) (v - (1 * 2 ^ (b - 1)) % 2 ^ 64) ≡ deltaBits v
-unfolding deltaBits
-delta-parts b v s e = ap (λ (l : List ℕ). gammaBits b ++ l) (rest-bits b v s) ∙ rw e
+  delta-parts : gammaBits b ++ bitsHigh (b - 1) rest ≡ deltaBits v
+  unfolding deltaBits
+  delta-parts = ap (λ (l : List ℕ). gammaBits b ++ l) rest-bits ∙ rw (s .is)
 
-gamma-size : (b v : ℕ) → b ≡ bitLength v → length (gammaBits v) ≡ b - 1 + b
-gamma-size b v e = ap length (sym (gamma-parts b v e)) ∙ length-append (bitsHigh (b - 1) 0) (bitsHigh b v) ∙ omega (arith, high-length (b - 1) 0, high-length b v)
+  gamma-size : length (gammaBits v) ≡ b - 1 + b
+  gamma-size =
+      ap length (sym gamma-parts) ∙ length-append (bitsHigh (b - 1) 0) (bitsHigh b v) ∙ omega (arith, high-length (b - 1) 0, high-length b v)
 
-delta-size : (b v : ℕ) → Sized b v → b ≡ bitLength v → length (deltaBits v) ≡ length (gammaBits b) + (b - 1)
-delta-size b v s e =
-    let r = v - (1 * 2 ^ (b - 1)) % 2 ^ 64 in
-    ap length (sym (delta-parts b v s e)) ∙ length-append (gammaBits b) (bitsHigh (b - 1) r) ∙ omega (arith, high-length (b - 1) r)
+  delta-size : length (deltaBits v) ≡ length (gammaBits b) + (b - 1)
+  delta-size = ap length (sym delta-parts) ∙ length-append (gammaBits b) (bitsHigh (b - 1) rest) ∙ omega (arith, high-length (b - 1) rest)
 
--- ---- v in gamma: zeros, then its bits
-module _ (b v : ℕ) (p : Pending) (e : b ≡ bitLength v) where
-  pub gamma-room : Free p (length (gammaBits v)) → Free p (b - 1)
-  gamma-room f = record { few = f .few; low = omega (arith, f .low, gamma-size b v e) }
+  -- ---- pushed in gamma: zeros, then its bits
+  module _ {p : Pending} (room : Free p (length (gammaBits v))) where
+    pub gamma-room : Free p (b - 1)
+    gamma-room = record { few = room .few; low = omega (arith, room .low, gamma-size) }
 
-  module _ (q : Pending) (out out₁ : List ℕ) (zeros : Pushed (bitsHigh (b - 1) 0) p out out₁ q) where
-    pub gamma-room-2 : Free p (length (gammaBits v)) → Free q b
-    gamma-room-2 f = record { few = zeros .few; low = omega (arith, f .low, gamma-size b v e, zeros .reached, high-length (b - 1) 0) }
+    pub gamma-room-2 : {q : Pending} {out out₁ : List ℕ} → Pushed (bitsHigh (b - 1) 0) p out out₁ q → Free q b
+    gamma-room-2 zeros = record { few = zeros .few; low = omega (arith, room .low, gamma-size, zeros .reached, high-length (b - 1) 0) }
 
-    pub gamma-pushed : (r : Pending) (out₂ : List ℕ) → Pushed (bitsHigh b v) q out₁ out₂ r → Pushed (gammaBits v) p out out₂ r
-    gamma-pushed r out₂ bits = subst (λ (l : List ℕ). Pushed l p out out₂ r) (gamma-parts b v e) (push-then (bitsHigh (b - 1) 0) (bitsHigh b v) p q r out out₁ out₂ zeros bits)
+  pub gamma-pushed : {p q r : Pending} {out out₁ out₂ : List ℕ} → Pushed (bitsHigh (b - 1) 0) p out out₁ q → Pushed (bitsHigh b v) q out₁ out₂ r
+      → Pushed (gammaBits v) p out out₂ r
+  gamma-pushed {p} {q} {r} {out} {out₁} {out₂} zeros bits = subst (λ (l : List ℕ). Pushed l p out out₂ r) gamma-parts (push-then zeros bits)
 
--- ---- v in delta: its length, then its bits but one
-module _ (b v : ℕ) (p : Pending) (s : Sized b v) (e : b ≡ bitLength v) where
-  pub delta-room : Free p (length (deltaBits v)) → Free p (length (gammaBits b))
-  delta-room f = record { few = f .few; low = omega (arith, f .low, delta-size b v s e) }
+  -- ---- pushed in delta: its length, then its bits but one
+  module _ {p : Pending} (room : Free p (length (deltaBits v))) where
+    pub delta-room : Free p (length (gammaBits b))
+    delta-room = record { few = room .few; low = omega (arith, room .low, delta-size) }
 
-  module _ (q : Pending) (out out₁ : List ℕ) (long : Pushed (gammaBits b) p out out₁ q) where
-    pub delta-room-2 : Free p (length (deltaBits v)) → Free q (b - 1)
-    delta-room-2 f = record { few = long .few; low = omega (arith, f .low, delta-size b v s e, long .reached) }
+    pub delta-room-2 : {q : Pending} {out out₁ : List ℕ} → Pushed (gammaBits b) p out out₁ q → Free q (b - 1)
+    delta-room-2 long = record { few = long .few; low = omega (arith, room .low, delta-size, long .reached) }
 
-    pub delta-pushed : (r : Pending) (out₂ : List ℕ) → Pushed (bitsHigh (b - 1) (v - (1 * 2 ^ (b - 1)) % 2 ^ 64)) q out₁ out₂ r → Pushed (deltaBits v) p out out₂ r
-    delta-pushed r out₂ bits =
-        subst (λ (l : List ℕ). Pushed l p out out₂ r) (delta-parts b v s e) (push-then (gammaBits b) (bitsHigh (b - 1) (v - (1 * 2 ^ (b - 1)) % 2 ^ 64)) p q r out out₁ out₂ long bits)
+  pub delta-pushed : {p q r : Pending} {out out₁ out₂ : List ℕ} → Pushed (gammaBits b) p out out₁ q → Pushed (bitsHigh (b - 1) rest) q out₁ out₂ r
+      → Pushed (deltaBits v) p out out₂ r
+  delta-pushed {p} {q} {r} {out} {out₁} {out₂} long bits = subst (λ (l : List ℕ). Pushed l p out out₂ r) delta-parts (push-then long bits)

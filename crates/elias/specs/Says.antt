@@ -1,5 +1,6 @@
 -- What a codeword's answer says, and the codewords of either code.
 use Prim.Native.Nat.{ℕ}
+use mathlib.Core.Path.{_≡_}
 use mathlib.Core.List.{List}
 use Rattle.meaning.specs.Answer.{Answer, given, refused}
 use Rattle.meaning.specs.Codes.{Code, codeGamma, codeDelta}
@@ -13,6 +14,10 @@ use Rattle.elias.specs.declared.word.Codeword.the-variants.{Value, Refus
 abbrev pub wordSays : Codeword → Answer (ℕ × ℕ)
 wordSays (Value v size) = given (v, size)
 wordSays (Refused e) = refused e
+
+-- a value that r gives is what a gives; of a refusal nothing is said
+pub record Gives (r : Codeword) (a : Answer (ℕ × ℕ)) : Type 0 where
+  pub value : {v size : ℕ} → r ≡ Value v size → a ≡ given (v, size)
 
 -- v's codeword, how a codeword is read, and the code
 abbrev pub bitsOfWord : Form → ℕ → List ℕ

@@ -16,6 +16,7 @@ use crate::word::from_bit;
 use crate::word::word_at;
 use leaves::lesser;
 use leaves::taken;
+use meaning::Bit;
 use meaning::Offset;
 use meaning::Place;
 use meaning::Position;
@@ -37,12 +38,13 @@ fn unit(body: &[u8], at: Position, form: Form) -> UnitRead
     ensures { λ r. ⌜ UnitIs (codeWith form .unit (now (body .entry)) 0 at) r ⌝ }
 {
     let mut numbers = [0u32; 8];
-    let p = at.bit.index;
-    let w = word_at(body, p, form);
+    let bit = at.bit;
+    let w = word_at(body, bit, form);
     match w {
         Codeword::Value(v, size) => {
             numbers[0] = (v - 1) as u32;
-            let next = from_bit(p + size);
+            let index = bit.index + size;
+            let next = from_bit(Bit { index });
             UnitRead {
                 unit: Unit::Next(next, 1),
                 numbers,
@@ -70,18 +72,18 @@ fn take(
 {
     let first = from.number;
     let most = lesser(left, room);
-    let mut p = at.bit.index;
+    let mut index = at.bit.index;
     let mut i: usize = 0;
     while i < most {
-        let w = quick_word(body, p, form);
+        let w = quick_word(body, Bit { index }, form);
         let Codeword::Value(v, size) = w else {
-            return taken(at, i, i, 0, from_bit(p));
+            return taken(at, i, i, 0, from_bit(Bit { index }));
         };
         work[first + i] = (v - 1) as u32;
-        p += size;
+        index += size;
         i += 1;
     }
-    taken(at, i, i, 0, from_bit(p))
+    taken(at, i, i, 0, from_bit(Bit { index }))
 }
 
 // Writes the codewords of n numbers from a place of a list on, from an offset of an output on.
@@ -172,7 +174,8 @@ pub fn done(body: &[u8], at: Position) -> bool
     requires { ⌜ length (now body) ≤ mostBytes ⌝ }
     ensures { λ r. ⌜ r ≡ doneElias (now (body .entry)) at ⌝ }
 {
-    let p = at.bit.index;
+    let bit = at.bit;
+    let p = bit.index;
     let bits = 8 * body.len();
     if bits <= p {
         return true;
@@ -180,5 +183,5 @@ pub fn done(body: &[u8], at: Position) -> bool
     if 7 < bits - p {
         return false;
     }
-    top(peek(body, p), 7) == 0
+    top(peek(body, bit), 7) == 0
 }

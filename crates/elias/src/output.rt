@@ -29,7 +29,7 @@ fn push(out: &mut [u8], wait: Pending, v: u64, n: usize) -> Pending
     let mut byte = wait.at.byte;
     while 8 <= count {
         count -= 8;
-        put(out, byte, ((bits >> count) % 256) as u8);
+        put(out, Offset { byte }, ((bits >> count) % 256) as u8);
         byte += 1;
     }
     Pending {
@@ -88,6 +88,10 @@ pub fn finish(out: &mut [u8], wait: Pending) -> Offset
     if count == 0 {
         return Offset { byte };
     }
-    put(out, byte, ((wait.bits << (8 - count)) % 256) as u8);
+    put(
+        out,
+        Offset { byte },
+        ((wait.bits << (8 - count)) % 256) as u8,
+    );
     Offset { byte: byte + 1 }
 }

@@ -30,13 +30,13 @@ pub enum Codeword {
 }
 
 // A position that is a bit alone.
-pub fn from_bit(index: usize) -> Position
-    ensures { λ r. ⌜ r ≡ atBit index ⌝ }
+pub fn from_bit(bit: Bit) -> Position
+    ensures { λ r. ⌜ r ≡ atBit (bit .index) ⌝ }
 {
     Position {
         head: Offset { byte: 0 },
         tail: Offset { byte: 0 },
-        bit: Bit { index },
+        bit,
     }
 }
 
@@ -51,11 +51,12 @@ fn within(v: u64, most: u64, size: usize) -> Codeword
 }
 
 // The value in gamma at a bit, with at most so many zeros, and not above `most`. In 57 bits seen at once are 28 zeros and what stands behind them.
-fn gamma_in(body: &[u8], p: usize, zeros: usize, most: u64) -> Codeword
-    requires { ⌜ (length (now body) ≤ mostBytes) × (p ≤ 8 * length (now body)) × (zeros ≤ 32) ⌝ }
-    ensures { λ r. ⌜ wordSays r ≡ gammaIn zeros most (drop p (bitsOf (now (body .entry)))) ⌝ }
+fn gamma_in(body: &[u8], at: Bit, zeros: usize, most: u64) -> Codeword
+    requires { ⌜ (length (now body) ≤ mostBytes) × (at .index ≤ 8 * length (now body)) × (zeros ≤ 32) ⌝ }
+    ensures { λ r. ⌜ wordSays r ≡ gammaIn zeros most (drop (at .index) (bitsOf (now (body .entry)))) ⌝ }
 {
-    let seen = peek(body, p);
+    let p = at.index;
+    let seen = peek(body, at);
     let z = u64::leading_zeros(seen) as usize;
     if zeros < z {
         return Codeword::Refused(FAULT);
@@ -68,15 +69,16 @@ fn gamma_in(body: &[u8], p: usize, zeros: usize, most: u64) -> Codeword
     if z <= 28 {
         return within(top(seen, size), most, size);
     }
-    within(take_bits(body, p + z, z + 1), most, size)
+    within(take_bits(body, Bit { index: p + z }, z + 1), most, size)
 }
 
 // The value in delta at a bit: its length in gamma, then the rest after its leading one.
-fn delta_at(body: &[u8], p: usize) -> Codeword
-    requires { ⌜ (length (now body) ≤ mostBytes) × (p ≤ 8 * length (now body)) ⌝ }
-    ensures { λ r. ⌜ wordSays r ≡ deltaWord (drop p (bitsOf (now (body .entry)))) ⌝ }
+fn delta_at(body: &[u8], at: Bit) -> Codeword
+    requires { ⌜ (length (now body) ≤ mostBytes) × (at .index ≤ 8 * length (now body)) ⌝ }
+    ensures { λ r. ⌜ wordSays r ≡ deltaWord (drop (at .index) (bitsOf (now (body .entry)))) ⌝ }
 {
-    let first = gamma_in(body, p, 5, 33);
+    let p = at.index;
+    let first = gamma_in(body, at, 5, 33);
     let Codeword::Value(long, size) = first else {
         return first;
     };
@@ -86,22 +88,22 @@ fn delta_at(body: &[u8], p: usize) -> Codeword
         return Codeword::Refused(FAULT);
     }
     within(
-        (1 << n) + take_bits(body, p + size, n),
+        (1 << n) + take_bits(body, Bit { index: p + size }, n),
         4294967296,
         size + n,
     )
 }
 
 // The codeword at a bit, which may lie past the end.
-pub fn word_at(body: &[u8], p: usize, form: Form) -> Codeword
+pub fn word_at(body: &[u8], at: Bit, form: Form) -> Codeword
     requires { ⌜ length (now body) ≤ mostBytes ⌝ }
-    ensures { λ r. ⌜ wordSays r ≡ wordOf form (drop p (bitsOf (now (body .entry)))) ⌝ }
+    ensures { λ r. ⌜ wordSays r ≡ wordOf form (drop (at .index) (bitsOf (now (body .entry)))) ⌝ }
 {
-    if 8 * body.len() <= p {
+    if 8 * body.len() <= at.index {
         return Codeword::Refused(FAULT);
     }
     match form {
-        Form::Gamma => gamma_in(body, p, 32, 4294967296),
-        Form::Delta => delta_at(body, p),
+        Form::Gamma => gamma_in(body, at, 32, 4294967296),
+        Form::Delta => delta_at(body, at),
     }
 }

@@ -1,12 +1,11 @@
 -- Numbers in bytes: written, read, and back. Assumes nothing.
-use Prim.Native.Nat.{ℕ, zero, suc, _+_, _*_, _/_, _%_, _^_, _≤_, _<_}
-use mathlib.Core.Path.{_≡_, refl, sym, ap, ap₂, _∙_}
-use mathlib.Core.List.{List, [], _∷_, _++_}
+use Prim.Native.Nat.{ℕ, zero, suc, _+_, _*_, _/_, _%_, _^_, _<_}
+use mathlib.Core.Path.{_≡_, refl, ap}
+use mathlib.Core.List.{List, [], _∷_}
 use native.Mathlib.Nat.{pow-suc}
 use native.Mathlib.Omega.{arith}
-use lib.ListN.{length, take}
-use lib.Seq.{take-at}
-use Rattle.meaning.specs.Bytes.{bytesOf, numberOf, word, wordAt}
+use lib.ListN.{length}
+use Rattle.meaning.specs.Bytes.{bytesOf, numberOf}
 use Rattle.meaning.specs.Places.{Below}
 use Rattle.meaning.proofs.Bounds.{below-nil, below-cons}
 

@@ -1,14 +1,14 @@
 -- Numbers of 1 to 4 bytes, byte by byte, as straight-line code reads and puts them. Assumes nothing.
-use Prim.Native.Nat.{ℕ, zero, suc, _+_, _*_, _/_, _%_, _^_, _≤_, _<_}
-use mathlib.Core.Path.{_≡_, refl, sym, ap, ap₂, _∙_}
-use mathlib.Core.List.{List, [], _∷_}
+use Prim.Native.Nat.{ℕ, suc, _+_, _*_, _/_, _%_, _^_, _≤_, _<_}
+use mathlib.Core.Path.{_≡_, refl, ap, _∙_}
+use mathlib.Core.List.{List}
 use native.Mathlib.Nat.{add-assoc, div-div-eq-div-mul}
 use native.Mathlib.Numerals.{add-one}
 use native.Mathlib.Omega.{arith}
 use lib.ListN.{length, getD, take, drop, set}
 use lib.Seq.{sets, drop-cons}
 use borrow.Author.Tests.{lt-ltb, le-ltb}
-use Rattle.meaning.specs.Bytes.{bytesOf, numberOf, word, wordAt}
+use Rattle.meaning.specs.Bytes.{bytesOf, numberOf, word}
 use Rattle.meaning.specs.Fields.{byteLength, fewest}
 
 -- ---- read

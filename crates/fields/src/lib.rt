@@ -1,6 +1,7 @@
 // Numbers in bytes, least significant first: in the fewest that hold them, and in 4.
 use leaves::put;
 use leaves::wide;
+use meaning::Offset;
 ghost use mathlib.Core.Path.{_≡_};
 ghost use Prim.Native.Nat.{_<_, _+_, _≤_, _^_};
 ghost use lib.ListN.{length, take, drop};
@@ -20,61 +21,67 @@ pub fn byte_length(x: u32) -> usize
 }
 
 // The number in 1 to 4 bytes from an offset on.
-pub fn number_at(bytes: &[u8], at: usize, len: usize) -> u32
-    requires { ⌜ (1 ≤ len) × (len ≤ 4) × (at + len ≤ length (now bytes)) ⌝ }
-    ensures { λ r. ⌜ r ≡ numberOf (take len (drop at (now (bytes .entry)))) ⌝ }
+pub fn number_at(bytes: &[u8], at: Offset, len: usize) -> u32
+    requires { ⌜ (1 ≤ len) × (len ≤ 4) × (at .byte + len ≤ length (now bytes)) ⌝ }
+    ensures { λ r. ⌜ r ≡ numberOf (take len (drop (at .byte) (now (bytes .entry)))) ⌝ }
 {
-    let a = wide(bytes[at]);
+    let first = at.byte;
+    let a = wide(bytes[first]);
     if len == 1 {
         return a;
     }
-    let b = a + 256 * wide(bytes[at + 1]);
+    let b = a + 256 * wide(bytes[first + 1]);
     if len == 2 {
         return b;
     }
-    let c = b + 65536 * wide(bytes[at + 2]);
+    let c = b + 65536 * wide(bytes[first + 2]);
     if len == 3 {
         return c;
     }
-    c + 16777216 * wide(bytes[at + 3])
+    c + 16777216 * wide(bytes[first + 3])
 }
 
 // The number in the 4 bytes from an offset on.
-pub fn word_at(bytes: &[u8], at: usize) -> u32
-    requires { ⌜ at + 4 ≤ length (now bytes) ⌝ }
-    ensures { λ r. ⌜ r ≡ wordAt (now (bytes .entry)) at ⌝ }
+pub fn word_at(bytes: &[u8], at: Offset) -> u32
+    requires { ⌜ at .byte + 4 ≤ length (now bytes) ⌝ }
+    ensures { λ r. ⌜ r ≡ wordAt (now (bytes .entry)) (at .byte) ⌝ }
 {
     number_at(bytes, at, 4)
 }
 
 // A number is put in its fewest bytes. Answers where they end.
-pub fn put_fewest(out: &mut [u8], at: usize, x: u32) -> usize
-    requires { ⌜ at + 4 < 2 ^ 64 ⌝ }
-    ensures { λ r. ⌜ (r ≡ at + byteLength x) × (now (out .exit) ≡ sets (now (out .entry)) at (fewest x)) ⌝ }
+pub fn put_fewest(out: &mut [u8], at: Offset, x: u32) -> Offset
+    requires { ⌜ at .byte + 4 < 2 ^ 64 ⌝ }
+    ensures { λ r. ⌜ (r .byte ≡ at .byte + byteLength x) × (now (out .exit) ≡ sets (now (out .entry)) (at .byte) (fewest x)) ⌝ }
 {
+    let start = at.byte;
     put(out, at, (x % 256) as u8);
+    let second = Offset { byte: start + 1 };
     if x < 256 {
-        return at + 1;
+        return second;
     }
-    put(out, at + 1, (x / 256 % 256) as u8);
+    put(out, second, (x / 256 % 256) as u8);
+    let third = Offset { byte: start + 2 };
     if x < 65536 {
-        return at + 2;
+        return third;
     }
-    put(out, at + 2, (x / 65536 % 256) as u8);
+    put(out, third, (x / 65536 % 256) as u8);
+    let fourth = Offset { byte: start + 3 };
     if x < 16777216 {
-        return at + 3;
+        return fourth;
     }
-    put(out, at + 3, (x / 16777216 % 256) as u8);
-    at + 4
+    put(out, fourth, (x / 16777216 % 256) as u8);
+    Offset { byte: start + 4 }
 }
 
 // A number is put in 4 bytes.
-pub fn put_word(out: &mut [u8], at: usize, x: u32)
-    requires { ⌜ at + 4 < 2 ^ 64 ⌝ }
-    ensures { λ _. ⌜ now (out .exit) ≡ sets (now (out .entry)) at (word x) ⌝ }
+pub fn put_word(out: &mut [u8], at: Offset, x: u32)
+    requires { ⌜ at .byte + 4 < 2 ^ 64 ⌝ }
+    ensures { λ _. ⌜ now (out .exit) ≡ sets (now (out .entry)) (at .byte) (word x) ⌝ }
 {
+    let start = at.byte;
     put(out, at, (x % 256) as u8);
-    put(out, at + 1, (x / 256 % 256) as u8);
-    put(out, at + 2, (x / 65536 % 256) as u8);
-    put(out, at + 3, (x / 16777216 % 256) as u8);
+    put(out, Offset { byte: start + 1 }, (x / 256 % 256) as u8);
+    put(out, Offset { byte: start + 2 }, (x / 65536 % 256) as u8);
+    put(out, Offset { byte: start + 3 }, (x / 16777216 % 256) as u8);
 }

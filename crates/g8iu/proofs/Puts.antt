@@ -8,7 +8,7 @@ use native.Mathlib.Numerals.{add-one}
 use native.Mathlib.Omega.{arith}
 use lib.ListN.{length, getD, set, replicate, length-set, length-append}
 use lib.Pow.{shl-exact}
-use lib.Seq.{sets}
+use lib.Seq.{sets, length-sets}
 use borrow.Author.Tests.{lt-leb}
 use Rattle.meaning.specs.Fields.{byteLength, fewest, fields}
 use Rattle.meaning.specs.G8IU.{fits, blockControl, block}
@@ -24,28 +24,37 @@ use Rattle.g8iu.proofs.Parts.{part-snoc}
 
 -- ---- zeros after the data bytes that are used: i of the 8 stand, and what is left makes the whole
 pub record ZerosSo (out₀ : List ℕ) (at used : ℕ) (out : List ℕ) (i : ℕ) : Type 0 where
-  pub low : used ≤ i
+  pub short : at + 9 < 2 ^ 63
   pub high : i ≤ 8
   pub long : length out ≡ length out₀
   pub rest : sets out (at + 1 + i) (replicate (8 - i) 0) ≡ sets out₀ (at + 1 + used) (replicate (8 - used) 0)
 
-module _ (out₀ : List ℕ) (at used : ℕ) (out : List ℕ) (i : ℕ) (so : ZerosSo out₀ at used out i) where
-  pub zeros-turn : (out′ : List ℕ) → i < 8 → out′ ≡ set out (at + 1 + i) 0 → ZerosSo out₀ at used out′ (i + 1)
-  zeros-turn out′ h e =
+pub zeros-start : {out : List ℕ} {at used : ℕ} → at + 9 < 2 ^ 63 → used ≤ 8 → ZerosSo out at used out used
+zeros-start short few = record { short = short; high = few; long = refl; rest = refl }
+
+module _ {out₀ : List ℕ} {at used : ℕ} {out : List ℕ} {i : ℕ} (so : ZerosSo out₀ at used out i) where
+  pub zeros-turn : i < 8 → {out′ : List ℕ} → out′ ≡ set out (at + 1 + i) 0 → ZerosSo out₀ at used out′ (i + 1)
+  zeros-turn h e =
       let k : 8 - i ≡ suc (8 - (i + 1)) = omega arith in
       let n : at + 1 + (i + 1) ≡ suc (at + 1 + i) = omega arith in
       record {
-        low = omega (arith, so .low);
+        short = so .short;
         high = omega arith;
         long = rw e (length-set out (at + 1 + i) 0 ∙ so .long);
         rest = rw (e, n) (rw k at (so .rest));
       }
 
-  pub zeros-end : 8 ≤ i → out ≡ sets out₀ (at + 1 + used) (replicate (8 - used) 0)
-  zeros-end h = let k : 8 - i ≡ 0 = omega arith in rw k at (so .rest)
+  -- the control byte was put before them
+  pub zeros-end : 8 ≤ i → (out₁ : List ℕ) {control : ℕ} → control < 256 → out₀ ≡ set out₁ at (control % 256)
+      → out ≡ sets (set out₁ at control) (at + 1 + used) (replicate (8 - used) 0)
+  zeros-end h out₁ {control} small first =
+      let k : 8 - i ≡ 0 = omega arith in
+      let byte : control % 256 ≡ control = omega arith in
+      rw (first, byte, k) at (so .rest)
 
 -- ---- the numbers b, from a place of the list to the next, are put after a control byte that is still to come
 pub record PutSo (list : List ℕ) (from end at : ℕ) (out₀ out : List ℕ) (control used next : ℕ) : Type 0 where
+  pub asks : (from < end) × (end ≤ length list) × (at + 9 < 2 ^ 63)
   pub low : from ≤ next
   pub high : next ≤ end
   pub b : List ℕ
@@ -56,13 +65,15 @@ pub record PutSo (list : List ℕ) (from end at : ℕ) (out₀ out : List ℕ) (
   pub ended : used ≡ length (fields b)
   pub here : out ≡ sets out₀ (at + 1) (fields b)
 
-pub put-start : (list : List ℕ) (from end at : ℕ) (out₀ : List ℕ) → from ≤ end → PutSo list from end at out₀ out₀ 255 0 from
+pub put-start : {list : List ℕ} {from end at : ℕ} {out : List ℕ} → (from < end) × (end ≤ length list) × (at + 9 < 2 ^ 63)
+    → PutSo list from end at out out 255 0 from
 unfolding fields joined
-put-start list from end at out₀ h =
+put-start {list} {from} asks =
     let e : from - from ≡ 0 = omega arith in
     record {
+      asks = asks;
       low = omega arith;
-      high = h;
+      high = omega arith;
       b = [];
       is = ap (part list from) e;
       many = sym e;
@@ -89,21 +100,25 @@ bit-more b x control used bits ended l =
     let k : used ≡ sum (map byteLength b) = omega arith in
     rw (map-append byteLength b (x ∷ []), k) (bits ∙ control-more (map byteLength b) (byteLength x) (lengths-some b) (held x .least) (omega arith))
 
-module _ (list : List ℕ) (from end at : ℕ) (out₀ out : List ℕ) (control used next : ℕ) (so : PutSo list from end at out₀ out control used next) where
+module _ {list : List ℕ} {from end at : ℕ} {out₀ out : List ℕ} {control used next : ℕ} (so : PutSo list from end at out₀ out control used next) where
+  pub put-long : length out ≡ length out₀
+  put-long = ap length (so .here) ∙ length-sets out₀ (at + 1) (fields (so .b))
+
   -- what closing the block asks
-  pub control-fits : control < 256
-  control-fits = rw (so .bits) (control-small (map byteLength (so .b)) (lengths-some (so .b)) (rw (← (fields-length (so .b))) (so .fitted)))
+  pub put-closes : (at + 9 < 2 ^ 63) × (control < 256) × (used ≤ 8)
+  put-closes = (
+    so .asks .2,
+    rw (so .bits) (control-small (map byteLength (so .b)) (lengths-some (so .b)) (rw (← (fields-length (so .b))) (so .fitted))),
+    omega (arith, so .ended, so .fitted),
+  )
 
-  pub used-few : used ≤ 8
-  used-few = omega (arith, so .ended, so .fitted)
-
-  -- a number x of len bytes comes next, and fits
-  module _ (inside : end ≤ length list) (h : next < end) (x : ℕ) (is : x ≡ getD list next 0) (l : used + byteLength x ≤ 8) where
+  -- a number x comes next, and fits
+  module _ (h : next < end) (x : ℕ) (is : x ≡ getD list next 0) (l : used + byteLength x ≤ 8) where
     b-more : part list from (next + 1 - from) ≡ so .b ++ (x ∷ [])
     b-more =
         let e : next + 1 - from ≡ next - from + 1 = omega (arith, so .low) in
         let k : from + (next - from) ≡ next = omega (arith, so .low) in
-        rw (e, part-snoc list from (next - from) (omega arith), k, is) (ap (λ (l : List ℕ). l ++ (getD list next 0 ∷ [])) (so .is))
+        rw (e, part-snoc list from (next - from) (omega (arith, so .asks)), k, is) (ap (λ (l : List ℕ). l ++ (getD list next 0 ∷ [])) (so .is))
 
     bit-value : 1 * 2 ^ (used + byteLength x - 1) % 2 ^ 32 ≡ 2 ^ (used + byteLength x - 1)
     bit-value = shl-exact {a = 1} 1 (used + byteLength x - 1) 32 (omega arith) (omega arith) ∙ one-mul (2 ^ (used + byteLength x - 1))
@@ -111,12 +126,13 @@ module _ (list : List ℕ) (from end at : ℕ) (out₀ out : List ℕ) (control 
     bit-there : 1 * 2 ^ (used + byteLength x - 1) % 2 ^ 32 ≤ control
     bit-there = rw bit-value (omega (arith, bit-more (so .b) x control used (so .bits) (so .ended) l))
 
-    number-put : (out′ : List ℕ) → out′ ≡ sets out (at + 1 + used) (fewest x)
+    number-put : {out′ : List ℕ} → out′ ≡ sets out (at + 1 + used) (fewest x)
         → PutSo list from end at out₀ out′ (control - 1 * 2 ^ (used + byteLength x - 1) % 2 ^ 32) (used + byteLength x) (next + 1)
-    number-put out′ e =
+    number-put e =
         let n = fields-more (so .b) x in
         let f = fields (so .b) in
         record {
+          asks = so .asks;
           low = omega (arith, so .low);
           high = omega arith;
           b = so .b ++ (x ∷ []);
@@ -129,48 +145,53 @@ module _ (list : List ℕ) (from end at : ℕ) (out₀ out : List ℕ) (control 
               ∙ ap (sets out₀ (at + 1)) (sym (fields-append (so .b) (x ∷ []) ∙ ap (λ (l : List ℕ). f ++ l) (fields-one x)));
         }
 
-  -- the same, where the code has the number's length
-  module _ (inside : end ≤ length list) (h : next < end) (len : ℕ) (is : len ≡ byteLength (getD list next 0)) (l : used + len ≤ 8) where
-    -- the bit of its last byte is there, and falls
-    pub put-bit : 1 * 2 ^ (used + len - 1) % 2 ^ 32 ≤ control
-    put-bit = rw is (bit-there inside h (getD list next 0) refl (rw is at l))
-
-    pub put-turn : (out′ : List ℕ) → out′ ≡ sets out (at + 1 + used) (fewest (getD list next 0))
-        → PutSo list from end at out₀ out′ (control - 1 * 2 ^ (used + len - 1) % 2 ^ 32) (used + len) (next + 1)
-    put-turn out′ e = rw is (number-put inside h (getD list next 0) refl (rw is at l) out′ e)
-
   -- the control byte and the zeros make the block whole
-  put-close : (out′ : List ℕ) → out′ ≡ sets (set out at control) (at + 1 + used) (replicate (8 - used) 0) → out′ ≡ sets out₀ at (block (so .b))
-  put-close out′ e =
+  put-close : {out′ : List ℕ} → out′ ≡ sets (set out at control) (at + 1 + used) (replicate (8 - used) 0) → out′ ≡ sets out₀ at (block (so .b))
+  put-close e =
       let f = fields (so .b) in
       let z : List ℕ = replicate (8 - length f) 0 in
       let c = blockControl (map byteLength (so .b)) in
       let s : set out at control ≡ sets (set out₀ at c) (at + 1) f = rw (so .here, so .bits) (set-sets f out₀ at (at + 1) c (omega arith)) in
       e ∙ rw (s, so .ended) (sets-append f z (set out₀ at c) (at + 1)) ∙ sym (block-at out₀ at (so .b))
 
-  no-room : (x len : ℕ) → len ≡ byteLength x → 8 < used + len → fits (so .b) x ≡ false
-  unfolding fits
-  no-room x len is h = lt-leb (length (fields (so .b)) + byteLength x) 8 (omega (arith, so .ended))
+  -- all numbers are put
+  pub put-all : end ≤ next → {out′ : List ℕ} → out′ ≡ sets (set out at control) (at + 1 + used) (replicate (8 - used) 0)
+      → PutBlock list from end at out₀ out′ next
+  put-all h closed =
+      record {
+        some = omega (arith, so .asks);
+        within = so .high;
+        fitted = rw (so .is) (so .fitted);
+        stops = λ k. absurd (omega arith);
+        here = rw (so .is) (put-close closed);
+      }
 
-  module _ (out′ : List ℕ) (closed : out′ ≡ sets (set out at control) (at + 1 + used) (replicate (8 - used) 0)) where
-    -- all numbers are put
-    pub put-all : from < end → end ≤ next → PutBlock list from end at out₀ out′ next
-    put-all f h =
+  -- the next number takes len bytes
+  module _ {len : ℕ} (is : len ≡ byteLength (getD list next 0)) where
+    pub put-sized : (1 ≤ len) × (len ≤ 4) × (used ≤ 8)
+    put-sized = let k = held (getD list next 0) in (omega (arith, k .least), omega (arith, k .most), put-closes .2)
+
+    -- it fits: the bit of its last byte is there, and falls
+    module _ (h : next < end) (l : used + len ≤ 8) where
+      pub put-bit : 1 * 2 ^ (used + len - 1) % 2 ^ 32 ≤ control
+      put-bit = rw is (bit-there h (getD list next 0) refl (rw is at l))
+
+      pub put-turn : {out′ : List ℕ} → out′ ≡ sets out (at + 1 + used) (fewest (getD list next 0))
+          → PutSo list from end at out₀ out′ (control - 1 * 2 ^ (used + len - 1) % 2 ^ 32) (used + len) (next + 1)
+      put-turn e = rw is (number-put h (getD list next 0) refl (rw is at l) e)
+
+    no-room : 8 < used + len → fits (so .b) (getD list next 0) ≡ false
+    unfolding fits
+    no-room h = lt-leb (length (fields (so .b)) + byteLength (getD list next 0)) 8 (omega (arith, so .ended))
+
+    -- it does not fit
+    pub put-full : 8 < used + len → {out′ : List ℕ} → out′ ≡ sets (set out at control) (at + 1 + used) (replicate (8 - used) 0)
+        → PutBlock list from end at out₀ out′ next
+    put-full h closed =
         record {
-          some = omega arith;
+          some = omega (arith, put-sized, so .ended, fields-most (so .b), so .many);
           within = so .high;
           fitted = rw (so .is) (so .fitted);
-          stops = λ k. absurd (omega arith);
-          here = rw (so .is) (put-close out′ closed);
-        }
-
-    -- the next number does not fit
-    pub put-full : (len : ℕ) → len ≡ byteLength (getD list next 0) → 8 < used + len → PutBlock list from end at out₀ out′ next
-    put-full len is h =
-        record {
-          some = omega (arith, held (getD list next 0) .most, so .ended, fields-most (so .b), so .many);
-          within = so .high;
-          fitted = rw (so .is) (so .fitted);
-          stops = λ k. rw (so .is) (no-room (getD list next 0) len is h);
-          here = rw (so .is) (put-close out′ closed);
+          stops = λ k. rw (so .is) (no-room h);
+          here = rw (so .is) (put-close closed);
         }

@@ -5,10 +5,10 @@ use crate::taking::MOST;
 use crate::taking::has_block;
 use crate::taking::take_ends;
 use fields::byte_length;
+use leaves::from_byte;
 use leaves::lesser;
 use leaves::taken;
 use leaves::wide;
-use meaning::Bit;
 use meaning::FAULT;
 use meaning::Offset;
 use meaning::Place;
@@ -35,26 +35,14 @@ pub fn write(list: &[u32], from: Place, n: usize, out: &mut [u8], at: Offset) ->
     requires { ⌜ Source (now list) (from .number) n (at .byte) ⌝ }
     ensures { λ r. ⌜ Wrote (codeG8IU .write (part (now (list .entry)) (from .number) n)) (at .byte) (now (out .entry)) (now (out .exit)) r ⌝ }
 {
-    let first = from.number;
-    let end = first + n;
-    let mut next = first;
+    let end = from.number + n;
+    let mut next = from;
     let mut to = at.byte;
-    while next < end {
-        next = put_block(list, next, end, out, to);
+    while next.number < end {
+        next = put_block(list, next, Place { number: end }, out, Offset { byte: to });
         to += 9;
     }
     Offset { byte: to }
-}
-
-// A position that is an offset alone.
-fn from_byte(byte: usize) -> Position
-    ensures { λ r. ⌜ r ≡ atByte byte ⌝ }
-{
-    Position {
-        head: Offset { byte },
-        tail: Offset { byte: 0 },
-        bit: Bit { index: 0 },
-    }
 }
 
 // A unit that is refused has no numbers.
@@ -92,7 +80,7 @@ pub fn unit(body: &[u8], left: usize, at: Position) -> UnitRead
 {
     let head = at.head;
     let first = head.byte;
-    if !has_block(body, first) {
+    if !has_block(body, head) {
         return refusal();
     }
     let control = body[first];
@@ -103,25 +91,35 @@ pub fn unit(body: &[u8], left: usize, at: Position) -> UnitRead
     let least = LEAST;
     let mut numbers = [0u32; 8];
     let ends = 255 - wide(control);
-    let count = take_ends(body, first, ends, &most, &least, &mut numbers, 0);
-    if count == 0 {
+    let count = take_ends(
+        body,
+        head,
+        ends,
+        &most,
+        &least,
+        &mut numbers,
+        Place { number: 0 },
+    );
+    if count.number == 0 {
         return refusal();
     }
+    let next = from_byte(Offset { byte: first + 9 });
     UnitRead {
-        unit: Unit::Next(from_byte(first + 9), count),
+        unit: Unit::Next(next, count.number),
         numbers,
     }
 }
 
 // The ends of a plain block: 0 where there is none at the offset, where more than 3 of its bytes are waste, and where its first number would have
 // fitted into what the block before left spare.
-fn plain_ends(body: &[u8], at: usize, spare: usize) -> u32
-    ensures { λ r. ⌜ ((r ≡ 0 → ⊥) → Plain (now (body .entry)) at spare r) ⌝ }
+fn plain_ends(body: &[u8], at: Offset, spare: usize) -> u32
+    ensures { λ r. ⌜ ((r ≡ 0 → ⊥) → Plain (now (body .entry)) (at .byte) spare r) ⌝ }
 {
     if !has_block(body, at) {
         return 0;
     }
-    let ends = 255 - wide(body[at]);
+    let here = at.byte;
+    let ends = 255 - wide(body[here]);
     if ends < 16 {
         return 0;
     }
@@ -139,7 +137,7 @@ fn reached(at: Position, from: Place, next: Place, to: Offset, spare: usize) -> 
     let head = at.head;
     let count = next.number - from.number;
     let units = (to.byte - head.byte) / 9;
-    taken(at, count, units, spare, from_byte(to.byte))
+    taken(at, count, units, spare, from_byte(to))
 }
 
 // Takes blocks from a position on into work, as long as they are plain, at least 8 numbers are still to come and there is room for 8.
@@ -161,23 +159,24 @@ pub fn take(
     let n = lesser(left, room);
     // From there on fewer than 8 numbers are still to come, or there is room for fewer.
     let end = first + (n - lesser(n, 7));
-    let mut next = first;
+    let mut next = from;
     let mut to = head.byte;
     let mut spare: usize = 0;
-    while next < end {
-        let ends = plain_ends(body, to, spare);
+    while next.number < end {
+        let here = Offset { byte: to };
+        let ends = plain_ends(body, here, spare);
         if ends == 0 {
-            return reached(at, from, Place { number: next }, Offset { byte: to }, spare);
+            return reached(at, from, next, here, spare);
         }
-        let after = take_ends(body, to, ends, &most, &least, work, next);
-        if after == 0 {
-            return reached(at, from, Place { number: next }, Offset { byte: to }, spare);
+        let after = take_ends(body, here, ends, &most, &least, work, next);
+        if after.number == 0 {
+            return reached(at, from, next, here, spare);
         }
         next = after;
         to += 9;
         spare = u32::leading_zeros(ends) as usize - 24;
     }
-    reached(at, from, Place { number: next }, Offset { byte: to }, spare)
+    reached(at, from, next, Offset { byte: to }, spare)
 }
 
 // What a block of so many numbers left spare of its 8 data bytes.

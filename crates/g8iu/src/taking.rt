@@ -2,6 +2,8 @@
 use fields::word_at;
 use leaves::lesser;
 use leaves::wide;
+use meaning::Offset;
+use meaning::Place;
 ghost use mathlib.Core.Path.{_≡_};
 ghost use Prim.Native.Nat.{_+_, _≤_};
 ghost use lib.Dec.{leb};
@@ -18,69 +20,86 @@ pub const MOST: [u64; 8] = [255, 65535, 16777215, 4294967295, 0, 0, 0, 0];
 pub const LEAST: [u64; 8] = [0, 256, 65536, 16777216, 1, 1, 1, 1];
 
 // Whether a block fits into a body at an offset.
-pub fn has_block(body: &[u8], at: usize) -> bool
-    ensures { λ r. ⌜ r ≡ leb (at + 9) (length (now (body .entry))) ⌝ }
+pub fn has_block(body: &[u8], at: Offset) -> bool
+    ensures { λ r. ⌜ r ≡ leb (at .byte + 9) (length (now (body .entry))) ⌝ }
 {
     let len = body.len();
-    at < len - lesser(len, 8)
+    at.byte < len - lesser(len, 8)
 }
 
 // The number in the 8 bytes from an offset on.
-fn eight_at(bytes: &[u8], at: usize) -> u64
-    requires { ⌜ at + 8 ≤ length (now bytes) ⌝ }
-    ensures { λ r. ⌜ r ≡ numberOf (take 8 (drop at (now (bytes .entry)))) ⌝ }
+fn eight_at(bytes: &[u8], at: Offset) -> u64
+    requires { ⌜ at .byte + 8 ≤ length (now bytes) ⌝ }
+    ensures { λ r. ⌜ r ≡ numberOf (take 8 (drop (at .byte) (now (bytes .entry)))) ⌝ }
 {
     let low = word_at(bytes, at);
-    let high = word_at(bytes, at + 4);
+    let middle = at.byte + 4;
+    let high = word_at(bytes, Offset { byte: middle });
     low as u64 + 4294967296 * high as u64
 }
 
 // Copies eight numbers.
-fn copy_eight(list: &[u32], at: usize, out: &mut [u32], to: usize)
-    requires { ⌜ (at + 8 ≤ length (now list)) × (to + 8 ≤ length (now out)) ⌝ }
-    ensures { λ _. ⌜ now (out .exit) ≡ sets (now (out .entry)) to (part (now (list .entry)) at 8) ⌝ }
+fn copy_eight(list: &[u32], from: Place, out: &mut [u32], to: Place)
+    requires { ⌜ (from .number + 8 ≤ length (now list)) × (to .number + 8 ≤ length (now out)) ⌝ }
+    ensures { λ _. ⌜ now (out .exit) ≡ sets (now (out .entry)) (to .number) (part (now (list .entry)) (from .number) 8) ⌝ }
 {
+    let source = from.number;
+    let first = to.number;
     let mut i: usize = 0;
     while i < 8 {
-        out[to + i] = list[at + i];
+        out[first + i] = list[source + i];
         i += 1;
     }
 }
 
 // Stores eight bytes as numbers.
-fn take_eight(body: &[u8], at: usize, out: &mut [u32], to: usize)
-    requires { ⌜ (at + 8 ≤ length (now body)) × (to + 8 ≤ length (now out)) ⌝ }
-    ensures { λ _. ⌜ now (out .exit) ≡ sets (now (out .entry)) to (part (now (body .entry)) at 8) ⌝ }
+fn take_eight(body: &[u8], at: Offset, out: &mut [u32], to: Place)
+    requires { ⌜ (at .byte + 8 ≤ length (now body)) × (to .number + 8 ≤ length (now out)) ⌝ }
+    ensures { λ _. ⌜ now (out .exit) ≡ sets (now (out .entry)) (to .number) (part (now (body .entry)) (at .byte) 8) ⌝ }
 {
-    let mut i: usize = 0;
-    while i < 8 {
-        out[to + i] = wide(body[at + i]);
-        i += 1;
-    }
+    let start = at.byte;
+    let first = to.number;
+    let a = wide(body[start]);
+    let b = wide(body[start + 1]);
+    let c = wide(body[start + 2]);
+    let d = wide(body[start + 3]);
+    let e = wide(body[start + 4]);
+    let f = wide(body[start + 5]);
+    let g = wide(body[start + 6]);
+    let h = wide(body[start + 7]);
+    out[first] = a;
+    out[first + 1] = b;
+    out[first + 2] = c;
+    out[first + 3] = d;
+    out[first + 4] = e;
+    out[first + 5] = f;
+    out[first + 6] = g;
+    out[first + 7] = h;
 }
 
 // Takes a block whose ends are given, and answers the place after its numbers, or 0 where it is at fault: some may be stored all the same.
 // A number of f + 1 bytes is the data masked by most[f], and needs them all where it is not below least[f].
 fn take_numbers(
     body: &[u8],
-    at: usize,
+    at: Offset,
     ends: u32,
     most: &[u64; 8],
     least: &[u64; 8],
     out: &mut [u32],
-    to: usize,
-) -> usize
-    requires { ⌜ Ending (now body) at ends (now most) (now least) (now out) to ⌝ }
-    ensures { λ r. ⌜ BegunIs (now (body .entry)) at to (now (out .entry)) (now (out .exit)) r ⌝ }
+    to: Place,
+) -> Place
+    requires { ⌜ Ending (now body) (at .byte) ends (now most) (now least) (now out) (to .number) ⌝ }
+    ensures { λ r. ⌜ BegunIs (now (body .entry)) (at .byte) (to .number) (now (out .entry)) (now (out .exit)) (r .number) ⌝ }
 {
-    let mut rest = eight_at(body, at + 1);
+    let data = at.byte + 1;
+    let mut rest = eight_at(body, Offset { byte: data });
     let mut coming = ends;
-    let mut next = to;
+    let mut next = to.number;
     while coming != 0 {
         let f = u32::trailing_zeros(coming) as usize;
         let x = rest & most[f];
         if x < least[f] {
-            return 0;
+            return Place { number: 0 };
         }
         out[next] = x as u32;
         next += 1;
@@ -90,30 +109,30 @@ fn take_numbers(
     }
     // What the numbers leave of the data is waste.
     if rest != 0 {
-        return 0;
+        return Place { number: 0 };
     }
-    next
+    Place { number: next }
 }
 
 // The same, but what was stored of a block at fault is put back.
 fn take_plain(
     body: &[u8],
-    at: usize,
+    at: Offset,
     ends: u32,
     most: &[u64; 8],
     least: &[u64; 8],
     out: &mut [u32],
-    to: usize,
-) -> usize
-    requires { ⌜ Ending (now body) at ends (now most) (now least) (now out) to ⌝ }
-    ensures { λ r. ⌜ BlockIs (now (body .entry)) at to (now (out .entry)) (now (out .exit)) r ⌝ }
+    to: Place,
+) -> Place
+    requires { ⌜ Ending (now body) (at .byte) ends (now most) (now least) (now out) (to .number) ⌝ }
+    ensures { λ r. ⌜ BlockIs (now (body .entry)) (at .byte) (to .number) (now (out .entry)) (now (out .exit)) (r .number) ⌝ }
 {
+    let start = Place { number: 0 };
     let mut old = [0u32; 8];
-    copy_eight(out, to, &mut old, 0);
+    copy_eight(out, to, &mut old, start);
     let next = take_numbers(body, at, ends, most, least, out, to);
-    if next == 0 {
-        copy_eight(&old, 0, out, to);
-        return 0;
+    if next.number == 0 {
+        copy_eight(&old, start, out, to);
     }
     next
 }
@@ -121,19 +140,21 @@ fn take_plain(
 // The same; the block of small numbers needs no masks, and nothing can be amiss in it.
 pub fn take_ends(
     body: &[u8],
-    at: usize,
+    at: Offset,
     ends: u32,
     most: &[u64; 8],
     least: &[u64; 8],
     out: &mut [u32],
-    to: usize,
-) -> usize
-    requires { ⌜ Ending (now body) at ends (now most) (now least) (now out) to ⌝ }
-    ensures { λ r. ⌜ BlockIs (now (body .entry)) at to (now (out .entry)) (now (out .exit)) r ⌝ }
+    to: Place,
+) -> Place
+    requires { ⌜ Ending (now body) (at .byte) ends (now most) (now least) (now out) (to .number) ⌝ }
+    ensures { λ r. ⌜ BlockIs (now (body .entry)) (at .byte) (to .number) (now (out .entry)) (now (out .exit)) (r .number) ⌝ }
 {
     if ends == 255 {
-        take_eight(body, at + 1, out, to);
-        return to + 8;
+        let data = at.byte + 1;
+        take_eight(body, Offset { byte: data }, out, to);
+        let next = to.number + 8;
+        return Place { number: next };
     }
     take_plain(body, at, ends, most, least, out, to)
 }

@@ -92,32 +92,35 @@ pub left-alone : {body : List ℕ} {c from : ℕ} {w : List ℕ} {to : ℕ} → 
 left-alone = record { left = λ none. refl; taken = λ some. absurd (some refl) }
 
 -- ---- a loop that takes whole groups
--- a code of groups: its units stand by a layout, and each may follow any other
+-- a code of groups: its units stand by a layout, each may follow any other, and where data does not begin before its control byte, the next group's does not
 pub record LaidOut (code : Code) (g : Layout) : Type 0 where
   pub unit-is : (body : List ℕ) (left : ℕ) (p : Position) → code .unit body left p ≡ unitBy g body left p
   pub free : (before : List ℕ) → Spare (code .joins) before 0
+  pub onward : (p : Position) (end : ℕ) → g .head p ≤ g .from p → g .from p < end → g .head (g .next p end) ≤ g .from (g .next p end)
 
 pub groups-by : LaidOut codeGroups behind
 unfolding unitGroups
-groups-by = record { unit-is = λ body left p. refl; free = spare-always }
+groups-by = record { unit-is = λ body left p. refl; free = spare-always; onward = λ p end after more. omega arith }
 
 pub stream-by : LaidOut codeStream apart
 unfolding unitStream
-stream-by = record { unit-is = λ body left p. refl; free = spare-always }
+stream-by = record { unit-is = λ body left p. refl; free = spare-always; onward = λ p end after more. omega arith }
 
--- so many whole groups stand in work, the next is at `to`, and no more are taken than `limit`
-pub record TakesWhole (code : Code) (body : List ℕ) (left : ℕ) (p : Position) (room from : ℕ) (w₀ w : List ℕ) (limit units : ℕ) (to : Position) : Type 0 where
+-- so many whole groups stand in work, the next is at `to`, its data not before its control byte, and no more are taken than `limit`
+pub record TakesWhole (code : Code) (g : Layout) (body : List ℕ) (left : ℕ) (p : Position) (room from : ℕ) (w₀ w : List ℕ) (limit units : ℕ) (to : Position)
+    : Type 0 where
   pub so : Takes code body left p w₀ from w (4 * units) units 0 to
   pub inside : from + room ≤ length w₀
   pub long : length w ≡ length w₀
   pub come : 4 * limit ≤ left
   pub fits : 4 * limit ≤ room
   pub few : 4 * units ≤ room
+  pub after : g .head to ≤ g .from to
 
 module _ {code : Code} {g : Layout} (by : LaidOut code g) {body : List ℕ} {left : ℕ} {p : Position} {room from : ℕ} {w₀ : List ℕ} where
   pub whole-start : {limit most : ℕ} {to : Position} → limit ≡ most / 4 → most ≡ min left room → from + room ≤ length w₀
-      → ((k : ℕ) → unitBy g body k p ≡ unitBy g body k to) → TakesWhole code body left p room from w₀ w₀ limit 0 to
-  whole-start {to = to} el em inside alike =
+      → ((k : ℕ) → unitBy g body k p ≡ unitBy g body k to) → g .head to ≤ g .from to → TakesWhole code g body left p room from w₀ w₀ limit 0 to
+  whole-start {to = to} el em inside alike after =
       record {
         so = takes-start code body left p w₀ from to (by .free []) (λ k. by .unit-is body k p ∙ alike k ∙ sym (by .unit-is body k to));
         inside = inside;
@@ -125,16 +128,23 @@ module _ {code : Code} {g : Layout} (by : LaidOut code g) {body : List ℕ} {lef
         come = omega arith;
         fits = omega arith;
         few = omega arith;
+        after = after;
       }
 
-  module _ {w : List ℕ} {limit units : ℕ} {to : Position} (t : TakesWhole code body left p room from w₀ w limit units to) where
+  module _ {w : List ℕ} {limit units : ℕ} {to : Position} (t : TakesWhole code g body left p room from w₀ w limit units to) where
     -- nothing more is taken
-    pub whole-stop : {w′ : List ℕ} → w′ ≡ w → TakesWhole code body left p room from w₀ w′ 0 units to
-    whole-stop e = rw e (record { so = t .so; inside = t .inside; long = t .long; come = omega arith; fits = omega arith; few = t .few })
+    pub whole-stop : {w′ : List ℕ} → w′ ≡ w → TakesWhole code g body left p room from w₀ w′ 0 units to
+    whole-stop e = rw e (record { so = t .so; inside = t .inside; long = t .long; come = omega arith; fits = omega arith; few = t .few; after = t .after })
+
+    -- there is room for one group more
+    pub whole-room : {c : ℕ} {largest least : List ℕ} → units < limit → c < 256 → g .from to + 16 ≤ length body
+        → largest ≡ largestNumbers → least ≡ leastNumbers → Room body c (g .from to) largest least w (from + 4 * units)
+    whole-room more byte there largest least =
+        record { byte = byte; there = there; inside = omega (arith, t .fits, t .inside, t .long); largest-is = largest; least-is = least }
 
     -- a whole group that was taken is a turn
     pub takes-whole : {c r : ℕ} {w′ : List ℕ} → units < limit → g .head to < length body → c ≡ getD body (g .head to) 0
-        → Stands body c (g .from to) w (from + 4 * units) w′ r → TakesWhole code body left p room from w₀ w′ limit (units + 1) (g .next to r)
+        → Stands body c (g .from to) w (from + 4 * units) w′ r → TakesWhole code g body left p room from w₀ w′ limit (units + 1) (g .next to r)
     takes-whole {c} {r} {w′} more there byte s =
         let come = t .come in
         let is : groupAt body (left - 4 * units) (g .head to) (g .from to) ≡ given (r, s .numbers) =
@@ -150,6 +160,7 @@ module _ {code : Code} {g : Layout} (by : LaidOut code g) {body : List ℕ} {lef
           come = t .come;
           fits = t .fits;
           few = omega (arith, t .fits);
+          after = by .onward to r (t .after) (s .after);
         }
 
     pub whole-end : {r : Taken} → Ends p (4 * units) units 0 to r → Took code body left p room from w₀ w r

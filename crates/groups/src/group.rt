@@ -103,7 +103,7 @@ pub fn group_at(body: &[u8], left: usize, at: Position, data_at: DataAt) -> Unit
         if bytes_from(body.len(), Offset { byte: to }) < len {
             return faulty();
         }
-        let x = number_at(body, to, len);
+        let x = number_at(body, Offset { byte: to }, len);
         if byte_length(x) != len {
             return faulty();
         }

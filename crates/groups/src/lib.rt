@@ -30,18 +30,17 @@ pub fn write_groups(list: &[u32], from: Place, n: usize, out: &mut [u8], at: Off
     ensures { λ r. ⌜ Wrote (codeGroups .write (part (now (list .entry)) (from .number) n)) (at .byte) (now (out .entry)) (now (out .exit)) r ⌝ }
 {
     let first = from.number;
-    let mut to = at.byte;
+    let mut to = at;
     let mut i: usize = 0;
     while i < n {
         let k = lesser(4, n - i);
         let place = first + i;
         put(out, to, control_of(list, Place { number: place }, k));
-        let data = to + 1;
-        let end = put_fields(list, Place { number: place }, k, out, Offset { byte: data });
-        to = end.byte;
+        let data = to.byte + 1;
+        to = put_fields(list, Place { number: place }, k, out, Offset { byte: data });
         i += k;
     }
-    Offset { byte: to }
+    to
 }
 
 // Writes n numbers of a list in Stream VByte, and answers the offset after them.

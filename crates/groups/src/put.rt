@@ -56,7 +56,11 @@ pub fn put_controls(list: &[u32], from: Place, n: usize, out: &mut [u8], at: Off
     while i < n {
         let k = lesser(4, n - i);
         let place = first + i;
-        put(out, to, control_of(list, Place { number: place }, k));
+        put(
+            out,
+            Offset { byte: to },
+            control_of(list, Place { number: place }, k),
+        );
         to += 1;
         i += k;
     }
@@ -69,11 +73,11 @@ pub fn put_fields(list: &[u32], from: Place, n: usize, out: &mut [u8], at: Offse
     ensures { λ r. ⌜ Wrote (fieldsOf (now (list .entry)) (from .number) n) (at .byte) (now (out .entry)) (now (out .exit)) r ⌝ }
 {
     let first = from.number;
-    let mut to = at.byte;
+    let mut to = at;
     let mut i: usize = 0;
     while i < n {
         to = put_fewest(out, to, list[first + i]);
         i += 1;
     }
-    Offset { byte: to }
+    to
 }

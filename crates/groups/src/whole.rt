@@ -25,9 +25,9 @@ const LARGEST: [u32; 4] = [255, 65535, 16777215, 4294967295];
 const LEAST: [u32; 4] = [0, 256, 65536, 16777216];
 
 // The number whose field says f, where four bytes are there.
-fn field_at(body: &[u8], at: usize, f: usize, largest: &[u32; 4]) -> u32
-    requires { ⌜ (f < 4) × (at + 4 ≤ length (now body)) × (now largest ≡ largestNumbers) ⌝ }
-    ensures { λ r. ⌜ r ≡ numberOf (take (f + 1) (drop at (now (body .entry)))) ⌝ }
+fn field_at(body: &[u8], at: Offset, f: usize, largest: &[u32; 4]) -> u32
+    requires { ⌜ (f < 4) × (at .byte + 4 ≤ length (now body)) × (now largest ≡ largestNumbers) ⌝ }
+    ensures { λ r. ⌜ r ≡ numberOf (take (f + 1) (drop (at .byte) (now (body .entry)))) ⌝ }
 {
     word_at(body, at) & largest[f]
 }
@@ -36,43 +36,47 @@ fn field_at(body: &[u8], at: usize, f: usize, largest: &[u32; 4]) -> u32
 fn take_whole(
     body: &[u8],
     c: usize,
-    from: usize,
+    from: Offset,
     largest: &[u32; 4],
     least: &[u32; 4],
     work: &mut [u32],
-    to: usize,
-) -> usize
-    requires { ⌜ Room (now body) c from (now largest) (now least) (now work) to ⌝ }
-    ensures { λ r. ⌜ GroupTaken (now (body .entry)) c from (now (work .entry)) to (now (work .exit)) r ⌝ }
+    to: Place,
+) -> Offset
+    requires { ⌜ Room (now body) c (from .byte) (now largest) (now least) (now work) (to .number) ⌝ }
+    ensures { λ r. ⌜ GroupTaken (now (body .entry)) c (from .byte) (now (work .entry)) (to .number) (now (work .exit)) (r .byte) ⌝ }
 {
+    let start = from.byte;
+    let first = to.number;
     let a = c % 4;
     let w = field_at(body, from, a, largest);
-    let second = from + a;
+    let second = start + a;
     let b = c / 4 % 4;
-    let x = field_at(body, second + 1, b, largest);
+    let x = field_at(body, Offset { byte: second + 1 }, b, largest);
     let third = second + b;
     let d = c / 16 % 4;
-    let y = field_at(body, third + 2, d, largest);
+    let y = field_at(body, Offset { byte: third + 2 }, d, largest);
     let fourth = third + d;
     let e = c / 64;
-    let z = field_at(body, fourth + 3, e, largest);
+    let z = field_at(body, Offset { byte: fourth + 3 }, e, largest);
     if w < least[a] {
-        return 0;
+        return Offset { byte: 0 };
     }
     if x < least[b] {
-        return 0;
+        return Offset { byte: 0 };
     }
     if y < least[d] {
-        return 0;
+        return Offset { byte: 0 };
     }
     if z < least[e] {
-        return 0;
+        return Offset { byte: 0 };
     }
-    work[to] = w;
-    work[to + 1] = x;
-    work[to + 2] = y;
-    work[to + 3] = z;
-    fourth + e + 4
+    work[first] = w;
+    work[first + 1] = x;
+    work[first + 2] = y;
+    work[first + 3] = z;
+    Offset {
+        byte: fourth + e + 4,
+    }
 }
 
 // Code 2: takes whole groups from a position on into work, as far as they are plain and there is room for them.
@@ -101,12 +105,21 @@ pub fn take_groups(
             continue;
         }
         let c = wide(body[to]) as usize;
-        let end = take_whole(body, c, to + 1, &largest, &least, work, first + 4 * units);
-        if end == 0 {
+        let number = first + 4 * units;
+        let end = take_whole(
+            body,
+            c,
+            Offset { byte: to + 1 },
+            &largest,
+            &least,
+            work,
+            Place { number },
+        );
+        if end.byte == 0 {
             limit = 0;
             continue;
         }
-        to = end;
+        to = end.byte;
         units += 1;
     }
     let next = Position {
@@ -149,12 +162,21 @@ pub fn take_stream(
             continue;
         }
         let c = wide(body[control]) as usize;
-        let end = take_whole(body, c, to, &largest, &least, work, first + 4 * units);
-        if end == 0 {
+        let number = first + 4 * units;
+        let end = take_whole(
+            body,
+            c,
+            Offset { byte: to },
+            &largest,
+            &least,
+            work,
+            Place { number },
+        );
+        if end.byte == 0 {
             limit = 0;
             continue;
         }
-        to = end;
+        to = end.byte;
         control += 1;
         units += 1;
     }

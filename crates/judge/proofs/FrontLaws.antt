@@ -3,7 +3,6 @@ use Prim.Native.Nat.{ℕ, _+_, _≤_, _<_}
 use mathlib.Core.Path.{_≡_, refl, sym, ap, _∙_}
 use mathlib.Core.Bool.{Bool, true, false, not, _&&_}
 use mathlib.Core.List.{List}
-use native.Mathlib.Nat.{zero-add}
 use native.Mathlib.Numerals.{add-one}
 use lib.Dec.{eqb}
 use lib.ListN.{length, getD, drop, drop-of-length-le}
@@ -12,8 +11,9 @@ use borrow.Author.Tests.{eq-eqb, ne-eqb, not-true, not-false}
 use Rattle.meaning.specs.Answer.{Answer, given, refused, need}
 use Rattle.meaning.specs.Limits.{planBytes, mostStages, badPlan, unfitPlan, badOrders}
 use Rattle.meaning.specs.Lists.{all}
-use Rattle.meaning.specs.Plan.{planSize, planAt, planOf, good, wellFormed, passes, judgePlan}
-use Rattle.judge.proofs.TreeLaws.{and-both, and-not}
+use Rattle.meaning.specs.Plan.{planAt, planOf, wellFormed, passes, judgePlan}
+use Rattle.judge.specs.Stage.{goodEnd}
+use Rattle.judge.proofs.TreeLaws.{and-both, and-not, good-none, good-ends}
 
 -- ---- a refusal, or the answer behind it
 pub need-passed : {A : Type 0} (r t : Bool) (e : ℕ) (x a : Answer A) → r ≡ t → r ≡ true → x ≡ a → x ≡ need t e a
@@ -44,16 +44,16 @@ module _ (bytes : List ℕ) where
   unfolding wellFormed
   formed-short h = and-not _ _ _ refl (ne-eqb _ _ h)
 
-  module _ (l : length bytes ≡ planBytes) (g : Bool) (eg : g ≡ good (planAt mostStages bytes 0)) where
-    pub formed-bad : g ≡ false → false ≡ wellFormed bytes
+  module _ (l : length bytes ≡ planBytes) (e : ℕ) (is : e ≡ goodEnd (planAt mostStages bytes 0) 0) where
+    pub formed-bad : e ≡ 0 → false ≡ wellFormed bytes
     unfolding wellFormed planOf
-    formed-bad f = and-both _ _ _ _ refl (eq-eqb _ _ l) (and-not _ _ _ eg f)
+    formed-bad z = and-both _ _ _ _ refl (eq-eqb _ _ l) (and-not _ _ _ refl (good-none _ e is z))
 
-    pub formed-end : g ≡ true → (e : ℕ) → e ≡ 0 + planSize (planAt mostStages bytes 0) → (b : Bool) → b ≡ all (eqb 0) (drop e bytes) → b ≡ wellFormed bytes
+    pub formed-end : (e ≡ 0 → ⊥) → (b : Bool) → b ≡ all (eqb 0) (drop e bytes) → b ≡ wellFormed bytes
     unfolding wellFormed planOf
-    formed-end t e ee b eb =
-        let z = ee ∙ zero-add (planSize (planAt mostStages bytes 0)) in
-        and-both _ _ _ _ refl (eq-eqb _ _ l) (and-both _ _ _ _ eg t (eb ∙ ap (λ (k : ℕ). all (eqb 0) (drop k bytes)) z))
+    formed-end z b eb =
+        let (g, s) = good-ends _ e is z in
+        and-both _ _ _ _ refl (eq-eqb _ _ l) (and-both _ _ _ _ refl g (eb ∙ ap (λ (k : ℕ). all (eqb 0) (drop k bytes)) s))
 
 -- ---- the judge's refusals in their order
 module _ (kind : ℕ) (bytes : List ℕ) (known formed passed : Bool) (ef : formed ≡ wellFormed bytes) (ep : passed ≡ passes kind (planAt mostStages bytes 0)) where

@@ -1,6 +1,6 @@
--- What `good_plan`, `passes_plan`, `worst_code` and `worst_plan` answer, and a bound on every worst size. Assumes nothing.
+-- What `good_end`, `passes_plan`, `worst_code` and `worst_plan` answer, and a bound on every worst size. Assumes nothing.
 use Prim.Native.Nat.{ℕ, zero, suc, _+_, _*_, _/_, _≤_}
-use mathlib.Core.Path.{_≡_, refl, sym, _∙_}
+use mathlib.Core.Path.{_≡_, refl, sym, ap, _∙_}
 use mathlib.Core.Bool.{Bool, true, false, _&&_, cond}
 use mathlib.Core.List.{List}
 use native.Mathlib.Omega.{arith}
@@ -9,8 +9,9 @@ use lib.ListN.{getD}
 use Rattle.meaning.specs.Codes.{isCode, codeOf}
 use Rattle.meaning.specs.Groups.{groupCount}
 use Rattle.meaning.specs.Limits.{mostNumbers, mostStages}
-use Rattle.meaning.specs.Plan.{Plan, bad, code, reference, differences, runs, planSize, planAt, worstPlan}
+use Rattle.meaning.specs.Plan.{Plan, bad, code, reference, differences, runs, good, planSize, planAt, worstPlan}
 use Rattle.meaning.proofs.Codes.{by-code, by-number}
+use Rattle.judge.specs.Stage.{goodEnd}
 
 -- ---- a test in two turns
 pub and-both : (r s a b : Bool) → r ≡ a → r ≡ true → s ≡ b → s ≡ a && b
@@ -18,6 +19,77 @@ and-both r s a b e t f = let h : a ≡ true = sym e ∙ t in rw h f
 
 pub and-not : (r a b : Bool) → r ≡ a → r ≡ false → false ≡ a && b
 and-not r a b e t = let h : a ≡ false = sym e ∙ t in rw h
+
+-- ---- where a good plan ends; 0 is no end
+pub end-bad : (P : Plan) (at : ℕ) → P ≡ bad → 0 ≡ goodEnd P at
+unfolding goodEnd good
+end-bad P at e = rw e
+
+pub end-code : (P : Plan) (at c : ℕ) → P ≡ code c → at + 1 ≡ goodEnd P at
+unfolding goodEnd good planSize
+end-code P at c e = rw e
+
+-- one byte before a plan, which is good where the plan is
+one-more : (g : Bool) (x at s r : ℕ) → x ≡ at + 1 → r ≡ cond g (x + s) 0 → r ≡ cond g (at + (1 + s)) 0
+one-more true x at s r e h = omega arith
+one-more false x at s r e h = h
+
+pub end-reference : (P p : Plan) (x at r : ℕ) → P ≡ reference p → x ≡ at + 1 → r ≡ goodEnd p x → r ≡ goodEnd P at
+unfolding goodEnd good planSize
+end-reference P p x at r e i h = rw e (one-more (good p) x at (planSize p) r i h)
+
+pub end-differences : (P p : Plan) (x at r : ℕ) → P ≡ differences p → x ≡ at + 1 → r ≡ goodEnd p x → r ≡ goodEnd P at
+unfolding goodEnd good planSize
+end-differences P p x at r e i h = rw e (one-more (good p) x at (planSize p) r i h)
+
+-- two plans: the first is not good, or it ends where the second begins
+none : (g k : Bool) (x at s t m : ℕ) → x ≡ at + 1 → m ≡ cond g (x + s) 0 → m ≡ 0 → m ≡ cond (g && k) t 0
+none true k x at s t m e h z = absurd (omega arith)
+none false k x at s t m e h z = h
+
+pub end-first : (P p q : Plan) (x at m : ℕ) → P ≡ runs p q → x ≡ at + 1 → m ≡ goodEnd p x → m ≡ 0 → m ≡ goodEnd P at
+unfolding goodEnd good planSize
+end-first P p q x at m e i h z = rw e (none (good p) (good q) x at (planSize p) (at + (1 + (planSize p + planSize q))) m i h z)
+
+then : (H : ℕ → Bool) (S : ℕ → ℕ) (g : Bool) (x at s m r : ℕ) → x ≡ at + 1 → m ≡ cond g (x + s) 0 → (m ≡ 0 → ⊥) → r ≡ cond (H m) (m + S m) 0
+    → r ≡ cond (g && H (x + s)) (at + (1 + (s + S (x + s)))) 0
+then H S true x at s m r e h z f =
+    let k : x + s + S (x + s) ≡ at + (1 + (s + S (x + s))) = omega arith in
+    f ∙ ap (λ (j : ℕ). cond (H j) (j + S j) 0) h ∙ ap (λ (j : ℕ). cond (H (x + s)) j 0) k
+then H S false x at s m r e h z f = absurd (z h)
+
+pub end-second : (P : Plan) (l : ℕ) (bytes : List ℕ) (x at m r : ℕ)
+    → P ≡ runs (planAt l bytes x) (planAt l bytes (x + planSize (planAt l bytes x))) → x ≡ at + 1
+    → m ≡ goodEnd (planAt l bytes x) x → (m ≡ 0 → ⊥) → r ≡ goodEnd (planAt l bytes m) m → r ≡ goodEnd P at
+unfolding goodEnd good planSize
+end-second P l bytes x at m r e i h z f =
+    let p = planAt l bytes x in
+    rw e (then (λ k. good (planAt l bytes k)) (λ k. planSize (planAt l bytes k)) (good p) x at (planSize p) m r i h z f)
+
+-- a good plan has a byte
+good-some : (p : Plan) → good p ≡ true → 1 ≤ planSize p
+unfolding good planSize
+good-some bad e = let z : _≡_ {A = ℕ} 0 1 = cc in absurd (omega arith)
+good-some (code c) e = omega arith
+good-some (reference p) e = omega arith
+good-some (differences p) e = omega arith
+good-some (runs p q) e = omega arith
+
+no-end : (g : Bool) (s m : ℕ) → (g ≡ true → 1 ≤ s) → m ≡ cond g (0 + s) 0 → m ≡ 0 → g ≡ false
+no-end true s m h e z = let k = h refl in absurd (omega arith)
+no-end false s m h e z = refl
+
+an-end : (g : Bool) (s m : ℕ) → m ≡ cond g (0 + s) 0 → (m ≡ 0 → ⊥) → (g ≡ true) × (m ≡ s)
+an-end true s m e z = (refl, omega arith)
+an-end false s m e z = absurd (z e)
+
+pub good-none : (p : Plan) (m : ℕ) → m ≡ goodEnd p 0 → m ≡ 0 → good p ≡ false
+unfolding goodEnd
+good-none p m e z = no-end (good p) (planSize p) m (good-some p) e z
+
+pub good-ends : (p : Plan) (m : ℕ) → m ≡ goodEnd p 0 → (m ≡ 0 → ⊥) → (good p ≡ true) × (m ≡ planSize p)
+unfolding goodEnd
+good-ends p m e z = an-end (good p) (planSize p) m e z
 
 -- ---- the worst size of a code
 pub worst-else : (k n : ℕ) → (k ≡ 1 → ⊥) → (k ≡ 2 → ⊥) → (k ≡ 3 → ⊥) → (k ≡ 4 → ⊥) → (k ≡ 5 → ⊥) → (43 * n + 7) / 8 ≡ codeOf k .worst n

@@ -6,6 +6,7 @@ use mathlib.Core.List.{List}
 use lib.Dec.{leb, eqb}
 use lib.ListN.{getD}
 use Rattle.meaning.specs.Codes.{isCode}
+use Rattle.meaning.specs.Plan.{Plan, good, planSize}
 use Rattle.meaning.specs.declared.Offset.{Offset}
 use Rattle.judge.specs.declared.stage.Stage.{Stage}
 use Rattle.judge.specs.declared.stage.Stage.the-variants.{Bad, Code, Reference, Differences, Runs}
@@ -19,3 +20,7 @@ stageBy stages b next less =
 
 unfoldable pub stageAt : ℕ → List ℕ → ℕ → Stage
 stageAt stages bytes at = stageBy stages (getD bytes at 0) (record { byte = at + 1 }) (stages - 1)
+
+-- where a plan that begins at an offset ends, if it is good; no plan ends at 0
+unfoldable pub goodEnd : Plan → ℕ → ℕ
+goodEnd p at = cond (good p) (at + planSize p) 0

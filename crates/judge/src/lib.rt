@@ -1,6 +1,5 @@
 // Plans: judged for a kind, and their worst size. A plan of any length and any bytes is answered.
-use crate::stage::plan_end;
-use crate::tree::good_plan;
+use crate::tree::good_end;
 use crate::tree::passes_plan;
 use crate::tree::worst_plan;
 use meaning::BAD_ORDERS;
@@ -28,7 +27,7 @@ pub mod tree;
 const MOST_STAGES: usize = 3;
 
 // Whether every byte from an offset on is 0.
-fn blank_from(plan: &[u8], at: Offset) -> bool
+pub fn blank_from(plan: &[u8], at: Offset) -> bool
     ensures { λ r. ⌜ r ≡ all (eqb 0) (drop (at .byte) (now (plan .entry))) ⌝ }
 {
     let mut i = at.byte;
@@ -49,11 +48,11 @@ pub fn well_formed(plan: &[u8]) -> bool
         return false;
     }
     let start = Offset { byte: 0 };
-    if good_plan(plan, start, MOST_STAGES) {
-        let end = plan_end(plan, start, MOST_STAGES);
-        return blank_from(plan, end);
+    let end = good_end(plan, start, MOST_STAGES);
+    if end.byte == 0 {
+        return false;
     }
-    false
+    blank_from(plan, end)
 }
 
 // The judge's refusals in their order; whether the kind is known comes first.

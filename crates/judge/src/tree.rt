@@ -9,24 +9,27 @@ ghost use mathlib.Core.Path.{_≡_};
 ghost use Prim.Native.Nat.{_≤_};
 ghost use Rattle.meaning.specs.Codes.{codeOf, worstGroups};
 ghost use Rattle.meaning.specs.Limits.{mostNumbers, mostStages};
-ghost use Rattle.meaning.specs.Plan.{planAt, good, passes, worstPlan};
+ghost use Rattle.meaning.specs.Plan.{planAt, passes, worstPlan};
+ghost use Rattle.judge.specs.Stage.{goodEnd};
 
-// Whether it is well formed up to its end.
-pub fn good_plan(plan: &[u8], at: Offset, stages: usize) -> bool
-    ensures { λ r. ⌜ r ≡ good (planAt stages (now (plan .entry)) (at .byte)) ⌝ }
+// Where it ends, if it is well formed up to there; else 0, where no plan ends.
+pub fn good_end(plan: &[u8], at: Offset, stages: usize) -> Offset
+    ensures { λ r. ⌜ r .byte ≡ goodEnd (planAt stages (now (plan .entry)) (at .byte)) (at .byte) ⌝ }
 {
     match stage_at(plan, at, stages) {
-        Stage::Bad => false,
-        Stage::Code(_) => true,
-        Stage::Reference(next, less) => good_plan(plan, next, less),
-        Stage::Differences(next, less) => good_plan(plan, next, less),
+        Stage::Bad => Offset { byte: 0 },
+        Stage::Code(_) => {
+            let end = at.byte + 1;
+            Offset { byte: end }
+        }
+        Stage::Reference(next, less) => good_end(plan, next, less),
+        Stage::Differences(next, less) => good_end(plan, next, less),
         Stage::Runs(next, less) => {
-            if good_plan(plan, next, less) {
-                let second = plan_end(plan, next, less);
-                good_plan(plan, second, less)
-            } else {
-                false
+            let second = good_end(plan, next, less);
+            if second.byte == 0 {
+                return second;
             }
+            good_end(plan, second, less)
         }
     }
 }

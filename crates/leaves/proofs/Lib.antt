@@ -1,2 +1,3 @@
--- Laws that several codes cite.
+-- Laws that several crates cite.
 pub mod Joined
+pub mod Walking

@@ -1,4 +1,6 @@
 // Small functions that several crates share.
+use meaning::Bit;
+use meaning::Offset;
 use meaning::Position;
 use meaning::Taken;
 use meaning::Unit;
@@ -6,6 +8,7 @@ ghost use mathlib.Core.Path.{_≡_};
 ghost use Prim.Native.Nat.{_<_, _^_, min};
 ghost use lib.ListN.{set};
 ghost use Rattle.meaning.specs.Places.{Ends};
+ghost use Rattle.meaning.specs.Positions.{atByte};
 ghost use Rattle.meaning.specs.Says.{unitRefusal};
 
 // A byte as a number: that it is below 256 is then known wherever it goes.
@@ -29,6 +32,22 @@ pub fn long(x: u32) -> u64
     x as u64
 }
 
+// A number known to be below 2^32, as one.
+pub fn word_of(x: usize) -> u32
+    requires { ⌜ x < 2 ^ 32 ⌝ }
+    ensures { λ r. ⌜ r ≡ x ⌝ }
+{
+    x as u32
+}
+
+// A number known to be below 256, as a byte.
+pub fn byte_of(x: usize) -> u8
+    requires { ⌜ x < 256 ⌝ }
+    ensures { λ r. ⌜ r ≡ x ⌝ }
+{
+    x as u8
+}
+
 // The lesser of two.
 pub fn lesser(a: usize, b: usize) -> usize
     ensures { λ r. ⌜ r ≡ min a b ⌝ }
@@ -40,11 +59,23 @@ pub fn lesser(a: usize, b: usize) -> usize
 }
 
 // A byte is put at an offset of an output; past its end nothing is put.
-pub fn put(out: &mut [u8], at: usize, b: u8)
-    ensures { λ _. ⌜ now (out .exit) ≡ set (now (out .entry)) at b ⌝ }
+pub fn put(out: &mut [u8], at: Offset, b: u8)
+    ensures { λ _. ⌜ now (out .exit) ≡ set (now (out .entry)) (at .byte) b ⌝ }
 {
-    if at < out.len() {
-        out[at] = b;
+    let here = at.byte;
+    if here < out.len() {
+        out[here] = b;
+    }
+}
+
+// A position that is an offset alone.
+pub fn from_byte(at: Offset) -> Position
+    ensures { λ r. ⌜ r ≡ atByte (at .byte) ⌝ }
+{
+    Position {
+        head: at,
+        tail: Offset { byte: 0 },
+        bit: Bit { index: 0 },
     }
 }
 

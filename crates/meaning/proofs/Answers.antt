@@ -1,6 +1,6 @@
 -- Laws of answers. Assumes nothing.
 use Prim.Native.Nat.{ℕ}
-use mathlib.Core.Path.{_≡_, refl, subst}
+use mathlib.Core.Path.{_≡_, refl}
 use mathlib.Core.Bool.{Bool, true, false, cond}
 use native.Mathlib.Omega.{arith}
 use Rattle.meaning.specs.Answer.{Answer, given, refused, bind, need}
@@ -41,6 +41,3 @@ need-faulty false m h = refl
 pub cond-faulty : {A : Type 0} (b : Bool) (m n : Answer A) → Faulty m → Faulty n → Faulty (cond b m n)
 cond-faulty true m n h k = h
 cond-faulty false m n h k = k
-
-pub refused-faulty : {A : Type 0} (m : Answer A) (e : ℕ) → Faulty m → m ≡ refused e → e ≡ fault
-refused-faulty m e h q = subst Faulty q h

@@ -4,7 +4,6 @@ use mathlib.Core.List.{List, [], _∷_, _++_}
 use native.Mathlib.Omega.{arith}
 use lib.ListN.{take, drop, replicate}
 use lib.Seq.{getD-drop}
-use Rattle.meaning.specs.Lists.{joined}
 use Rattle.meaning.specs.Places.{Below}
 
 pub below-nil : (m : ℕ) → 0 < m → Below m []

@@ -1,11 +1,14 @@
 -- The other marked examples, the decisions of docs/DECISIONS.md (d1 to d13) and the order of refusals, computed. Assumes nothing.
+use Prim.Native.Nat.{ℕ}
 use mathlib.Core.Path.{_≡_, refl}
-use mathlib.Core.List.{[], _∷_, _++_}
+use mathlib.Core.List.{List, [], _∷_, _++_}
 use lib.ListN.{replicate}
 use Rattle.meaning.specs.Answer.{given, refused, passed, blamed}
+use Rattle.meaning.specs.Bytes.{word}
 use Rattle.meaning.specs.Plan.{code, planOf, judge, worstSize}
 use Rattle.meaning.specs.Stages.{write, read, look}
 use Rattle.meaning.specs.Operations.{writeApart, check, readSheet, lookSheet, fetch, call, boardVerdict, countBoard, noTally}
+use Rattle.meaning.specs.Texts.{text, digits, allWork, listingText, boardText}
 use Rattle.meaning.proofs.Computed.{meaning}
 
 -- 80 00: the last byte is not 0 unless alone
@@ -160,6 +163,52 @@ d11-endings = refl
 d11-equal-jobs : boardVerdict (1 ∷ 2 ∷ 1 ∷ 1 ∷ 0 ∷ 0 ∷ 0 ∷ 0 ∷ 0 ∷ 0 ∷ 0 ∷ 0 ∷ 0 ∷ 0 ∷ 0 ∷ 0 ∷ 0 ∷ 0 ∷ 2 ∷ 0 ∷ 0 ∷ 0 ∷ 2 ∷ 0 ∷ 0 ∷ 0 ∷ 0 ∷ 1 ∷ 0 ∷ 0 ∷ 0 ∷ 0 ∷ 0 ∷ 0 ∷ 0 ∷ 0 ∷ 0 ∷ 0 ∷ 0 ∷ 0 ∷ 0 ∷ 0 ∷ 2 ∷ 0 ∷ 0 ∷ 0 ∷ 2 ∷ 0 ∷ 0 ∷ 0 ∷ 3 ∷ 3 ∷ 0 ∷ 0 ∷ []) 16 ≡ blamed 12 0
 unfolding meaning
 d11-equal-jobs = refl
+
+-- the listing of no columns
+d12-no-columns : listingText (1 ∷ 0 ∷ []) ≡ text "columns 0\nend\n"
+unfolding meaning
+d12-no-columns = refl
+
+-- an entry whose plan is VByte
+abbrev entry : ℕ → ℕ → ℕ → List ℕ
+entry kind count size = kind ∷ 1 ∷ replicate 14 0 ++ (word count ++ word size)
+
+-- one end after the last column
+d12-two : listingText (1 ∷ 2 ∷ entry 1 1 1 ++ (entry 0 1 2 ++ (7 ∷ 128 ∷ 2 ∷ [])))
+    ≡ text "columns 2\ncolumn 0 rising plan 1 count 1 bytes 1\n0 7\ncolumn 1 any plan 1 count 1 bytes 2\n0 256\nend\n"
+unfolding meaning
+d12-two = refl
+
+-- the refusal's line alone, with the column at fault
+d12-fault : listingText (1 ∷ 2 ∷ entry 1 1 1 ++ (entry 0 1 2 ++ (7 ∷ 128 ∷ 0 ∷ []))) ≡ text "refused 9 column 1\n"
+unfolding meaning
+d12-fault = refl
+
+-- input of 65,537 bytes is 1
+d12-over : listingText (1 ∷ 0 ∷ replicate 65535 0) ≡ text "refused 1 column 0\n"
+unfolding meaning
+d12-over = refl
+
+-- a line for each tally, of the endings 0, 0, 0, 1, 255, 256
+d12-board : boardText (1 ∷ 2 ∷ entry 1 6 6 ++ (entry 0 6 8 ++ (1 ∷ 2 ∷ 3 ∷ 4 ∷ 5 ∷ 6 ∷ 0 ∷ 0 ∷ 0 ∷ 1 ∷ 255 ∷ 1 ∷ 128 ∷ 2 ∷ [])))
+    ≡ text "passed 3\nfailed 2\nunended 1\n"
+unfolding meaning
+d12-board = refl
+
+-- or the refusal's line, column 0 for 12
+d12-no-board : boardText (1 ∷ 0 ∷ []) ≡ text "refused 12 column 0\n"
+unfolding meaning
+d12-no-board = refl
+
+-- the programs' work is enough for 1,024 numbers
+d12-work : check (1 ∷ 1 ∷ entry 0 1024 1024 ++ replicate 1024 7) allWork ≡ passed
+unfolding meaning
+d12-work = refl
+
+-- zero takes one digit, the largest number ten
+d12-digits : digits 0 ++ digits 4294967295 ≡ text "04294967295"
+unfolding meaning
+d12-digits = refl
 
 -- 8 before 7 before 9
 d13-work-first : readSheet (1 ∷ 1 ∷ 0 ∷ 1 ∷ 0 ∷ 0 ∷ 0 ∷ 0 ∷ 0 ∷ 0 ∷ 0 ∷ 0 ∷ 0 ∷ 0 ∷ 0 ∷ 0 ∷ 0 ∷ 0 ∷ 1 ∷ 0 ∷ 0 ∷ 0 ∷ 1 ∷ 0 ∷ 0 ∷ 0 ∷ 128 ∷ []) 0 6 0 ≡ refused 8

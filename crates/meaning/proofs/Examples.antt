@@ -1,9 +1,10 @@
--- Document 01's marked examples that are to be proved of the meaning: each closes by computation. Assumes nothing.
+-- Document 01's marked examples that are to be proved of the meaning, and the listing that it prints: each closes by computation. Assumes nothing.
 use mathlib.Core.Path.{_≡_, refl}
-use mathlib.Core.List.{[], _∷_}
+use mathlib.Core.List.{[], _∷_, _++_}
 use lib.ListN.{replicate}
 use Rattle.meaning.specs.Plan.{code, planOf}
 use Rattle.meaning.specs.Stages.{write}
+use Rattle.meaning.specs.Texts.{text, listingText}
 use Rattle.meaning.proofs.Computed.{meaning}
 
 vbyte-32 : write (code 1) (32 ∷ []) ≡ 0x20 ∷ []
@@ -53,3 +54,14 @@ runs-7-7-7-9 = refl
 reference-1000-1002 : write (planOf (16 ∷ 1 ∷ replicate 13 0)) (1000 ∷ 1002 ∷ []) ≡ 0xe8 ∷ 0x03 ∷ 0x00 ∷ 0x00 ∷ 0x00 ∷ 0x02 ∷ []
 unfolding meaning
 reference-1000-1002 = refl
+
+listing : listingText
+    (0x01 ∷ 0x01 ∷ 0x01 ∷ 0x11 ∷ 0x01 ∷ replicate 13 0 ++ (0x03 ∷ 0x00 ∷ 0x00 ∷ 0x00 ∷ 0x04 ∷ 0x00 ∷ 0x00 ∷ 0x00 ∷ 0x05 ∷ 0x00 ∷ 0x80 ∷ 0x01 ∷ []))
+    ≡ text "columns 1\ncolumn 0 rising plan 17 1 count 3 bytes 4\n0 5\n1 5\n2 133\nend\n"
+unfolding meaning
+listing = refl
+
+-- its last line in bytes
+listing-end : text "end\n" ≡ 0x65 ∷ 0x6e ∷ 0x64 ∷ 0x0a ∷ []
+unfolding meaning
+listing-end = refl

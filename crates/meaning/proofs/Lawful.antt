@@ -1,9 +1,9 @@
 -- What is proved of every code. Assumes nothing.
 use Prim.Native.Nat.{ℕ, _*_, _≤_, _<_}
-use mathlib.Core.Path.{_≡_, ap, _∙_}
+use mathlib.Core.Path.{_≡_}
 use mathlib.Core.List.{List, []}
 use lib.ListN.{length, getD}
-use Rattle.meaning.specs.Answer.{Answer, given, bind}
+use Rattle.meaning.specs.Answer.{given}
 use Rattle.meaning.specs.Limits.{numberLimit}
 use Rattle.meaning.specs.Places.{Below, Spare}
 use Rattle.meaning.specs.Codes.{Code, readCode, lookCode}

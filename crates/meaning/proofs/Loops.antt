@@ -1,18 +1,16 @@
 -- What the loop of a strict reading and the loop of a lookup know, for any code. Assumes nothing.
-use Prim.Native.Nat.{ℕ, zero, suc, _+_, _-_, _≤_, _<_}
-use mathlib.Core.Path.{_≡_, refl, sym, ap, ap₂, _∙_}
+use Prim.Native.Nat.{ℕ, _+_, _-_, _≤_, _<_}
+use mathlib.Core.Path.{_≡_, refl, sym, ap, _∙_}
 use mathlib.Core.Bool.{Bool, true, false}
-use mathlib.Core.List.{List, [], _∷_, _++_, append-assoc, append-nil}
+use mathlib.Core.List.{List, [], _++_, append-assoc, append-nil}
 use native.Mathlib.Nat.{sub-zero}
 use native.Mathlib.Omega.{arith}
-use lib.ListN.{length, getD, take, drop, length-append}
+use lib.ListN.{length, getD, take, length-append}
 use lib.Seq.{sets, length-sets}
-use Rattle.meaning.specs.Answer.{Answer, given, refused, bind, need, amount}
+use Rattle.meaning.specs.Answer.{Answer, given, refused, need, amount}
 use Rattle.meaning.specs.Limits.{fault}
 use Rattle.meaning.specs.Places.{part, Got}
-use Rattle.meaning.specs.Says.{readingSays}
 use Rattle.meaning.specs.Units.{readUnits, lookUnits}
-use Rattle.meaning.specs.declared.Reading.{Reading}
 use Rattle.meaning.specs.declared.Reading.the-variants.{Whole, Refused}
 use Rattle.meaning.proofs.Answers.{not-given}
 use Rattle.meaning.proofs.Stores.{part-more, take-sets}

@@ -1,13 +1,12 @@
 -- What a loop knows that takes units (`Took`), for any code. Assumes nothing.
 use Prim.Native.Nat.{ℕ, _+_, _-_, _≤_, _<_}
 use mathlib.Core.Path.{_≡_, refl, sym, ap, _∙_}
-use mathlib.Core.Bool.{Bool, true}
 use mathlib.Core.List.{List, [], _++_}
 use native.Mathlib.Omega.{arith}
 use lib.ListN.{length, getD, length-append}
 use lib.Seq.{sets, length-sets}
 use borrow.Author.Tests.{lt-ltb}
-use Rattle.meaning.specs.Answer.{Answer, given}
+use Rattle.meaning.specs.Answer.{given}
 use Rattle.meaning.specs.Codes.{Code}
 use Rattle.meaning.specs.Fields.{byteLength}
 use Rattle.meaning.specs.Places.{Spare, Took, Ends}

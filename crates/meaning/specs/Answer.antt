@@ -62,7 +62,7 @@ inTurn f k (x ∷ xs) = blame (f x) k then inTurn f (suc k) xs
     blame (given b) k = passed
     blame (refused e) k = blamed e k
 
--- go on after a verdict that names no column
+-- an answer behind a verdict: where that refuses, its number is the answer's, and the column at fault is not told
 abbrev pub after : {A : Type 0} → Verdict → Answer A → Answer A
 after passed a = a
 after (blamed e k) a = refused e

@@ -1,11 +1,11 @@
 -- Gamma stores v, the number plus one: z zero bits, then v in z+1 bits, where v lies from 2^z to 2^(z+1) - 1. v may be 2^32.
 -- Delta: v's bit length in gamma (as it is, nothing added), then v without its leading one. Unit: a codeword.
-use Prim.Native.Nat.{ℕ, _+_, _-_, _*_, _^_}
+use Prim.Native.Nat.{ℕ, _+_, _-_, _*_}
 use mathlib.Core.Bool.{Bool, _&&_}
 use mathlib.Core.List.{List, [], _∷_, _++_}
 use lib.Dec.{leb, ltb, eqb}
 use lib.ListN.{length, take, drop, replicate}
-use Rattle.meaning.specs.Answer.{Answer, given, refused, bind, need}
+use Rattle.meaning.specs.Answer.{Answer, given, bind, need}
 use Rattle.meaning.specs.Limits.{fault, numberLimit}
 use Rattle.meaning.specs.Lists.{all, joined}
 use Rattle.meaning.specs.Bits.{bitsHigh, bitsOf, numberHigh, pack, zerosFirst, bitLength}
@@ -25,13 +25,17 @@ writeGamma xs = pack (joined (λ x. gammaBits (x + 1)) xs)
 unfoldable pub writeDelta : List ℕ → List ℕ
 writeDelta xs = pack (joined (λ x. deltaBits (x + 1)) xs)
 
--- v in gamma at the start of some bits, with at most z zeros and v at most `most`: v, and how many bits it takes
+-- v in gamma at the start of some bits: it stands behind the zeros, in one bit more than there are zeros
+abbrev pub valueBehind : List ℕ → ℕ
+valueBehind bits = numberHigh 0 (take (zerosFirst bits + 1) (drop (zerosFirst bits) bits))
+
+-- v, and how many bits the codeword takes; with at most so many zeros, and v at most `most`
 unfoldable pub gammaIn : ℕ → ℕ → List ℕ → Answer (ℕ × ℕ)
-gammaIn z most bits =
-    need (leb (zerosFirst bits) z) fault
+gammaIn zeros most bits =
+    need (leb (zerosFirst bits) zeros) fault
     (need (leb (2 * zerosFirst bits + 1) (length bits)) fault
-    (need (leb (numberHigh 0 (take (zerosFirst bits + 1) (drop (zerosFirst bits) bits))) most) fault
-    (given (numberHigh 0 (take (zerosFirst bits + 1) (drop (zerosFirst bits) bits)), 2 * zerosFirst bits + 1))))
+    (need (leb (valueBehind bits) most) fault
+    (given (valueBehind bits, 2 * zerosFirst bits + 1))))
 
 -- the largest v, 2^32, has 32 zeros in gamma; its length, 33, has 5
 unfoldable pub gammaWord : List ℕ → Answer (ℕ × ℕ)

@@ -2,11 +2,11 @@
 -- has zero bits, at least one; ones above the last zero are waste, and waste bytes are 0. A block takes the next number whenever it fits.
 -- Unit: a block; its own rules include no number beyond the list, and waste of at most 3 unless the list ends there.
 use Prim.Native.Nat.{ℕ, zero, suc, _+_, _-_, _*_, _/_, _%_}
-use mathlib.Core.Bool.{Bool, true, not, _&&_, _||_, cond}
+use mathlib.Core.Bool.{Bool, true, not, _||_, cond}
 use mathlib.Core.List.{List, [], _∷_, _++_, map}
 use lib.Dec.{leb, eqb}
 use lib.ListN.{length, getD, take, drop, replicate}
-use Rattle.meaning.specs.Answer.{Answer, given, refused, bind, need}
+use Rattle.meaning.specs.Answer.{Answer, given, bind, need}
 use Rattle.meaning.specs.Limits.{fault}
 use Rattle.meaning.specs.Lists.{all, sum, joined}
 use Rattle.meaning.specs.Fields.{byteLength, fields, fieldsIn}

@@ -16,5 +16,6 @@ pub mod Plan
 pub mod Stages
 pub mod Sheet
 pub mod Operations
+pub mod Texts
 pub mod Says
 pub mod Places

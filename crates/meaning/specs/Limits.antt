@@ -69,8 +69,8 @@ abbrev pub fault : ℕ
 fault = 9
 
 -- writing: a list of kind 1 falls
-abbrev pub falls : ℕ
-falls = 10
+abbrev pub fallen : ℕ
+fallen = 10
 
 -- over 16 orders, kind above 1, count above 1,024, counts not summing to the joined slice
 abbrev pub badOrders : ℕ

@@ -1,6 +1,6 @@
 -- Plain words about lists of numbers.
-use Prim.Native.Nat.{ℕ, zero, suc, _+_, min, max}
-use mathlib.Core.Bool.{Bool, true, false, not, _&&_}
+use Prim.Native.Nat.{ℕ, _+_, max}
+use mathlib.Core.Bool.{Bool, true, not, _&&_}
 use mathlib.Core.List.{List, [], _∷_, _++_}
 use lib.Dec.{leb, eqb}
 

@@ -1,17 +1,17 @@
 -- The operations: what came in, to the one answer. Work is known by its length alone.
 -- Order on a sheet: 1; 2; each plan in turn, 3 before 4; 5; 6; 8; 7; 9; 12. On writing: 11; each plan in turn, 3 before 4; each list in turn 10; 8; 7.
 use Prim.Native.Nat.{ℕ, zero, suc, _+_, _*_}
-use mathlib.Core.Bool.{Bool, true, false, _&&_, cond}
-use mathlib.Core.List.{List, [], _∷_, _++_, map}
+use mathlib.Core.Bool.{Bool, _&&_, cond}
+use mathlib.Core.List.{List, [], _∷_, map}
 use lib.Dec.{leb, ltb, eqb}
 use lib.ListN.{length, getD, take, drop}
-use Rattle.meaning.specs.Answer.{Answer, given, refused, bind, need, number, list, Verdict, passed, blamed, _then_, ask, inTurn, after}
-use Rattle.meaning.specs.Limits.{mostColumns, mostNumbers, mostBytes, planBytes, rising, noColumn, noPlace, noRoom, shortWork, falls, badOrders, badBoard}
+use Rattle.meaning.specs.Answer.{Answer, given, bind, need, list, Verdict, passed, blamed, _then_, ask, inTurn, after}
+use Rattle.meaning.specs.Limits.{mostColumns, mostNumbers, mostBytes, planBytes, rising, noColumn, noPlace, noRoom, shortWork, fallen, badOrders, badBoard}
 use Rattle.meaning.specs.Lists.{all, sum, largest, differ}
 use Rattle.meaning.specs.Plan.{planOf, judgePlan, planUsed}
 use Rattle.meaning.specs.Stages.{look}
 use Rattle.meaning.specs.declared.Tally.{Tally}
-use Rattle.meaning.specs.Sheet.{ofKind, Listed, sheetBytes, Column, columnsOf, columnAt, sound, readColumn, largestCount}
+use Rattle.meaning.specs.Sheet.{ofKind, Listed, sheetBytes, Column, columnsOf, columnAt, sound, readColumn, checkColumn, largestCount}
 
 -- ---- write: orders with their kind, plan and count, and one slice with all lists joined
 pub record Order : Type 0 where
@@ -35,7 +35,7 @@ ordersHold orders numbers =
 unfoldable pub writeListed : List Listed → ℕ → ℕ → Answer (List ℕ)
 writeListed columns work room =
     after (inTurn (λ c. judgePlan (c .kind) (c .plan)) 0 columns)
-    (need (all (λ c. ofKind (c .kind) (c .numbers)) columns) falls
+    (need (all (λ c. ofKind (c .kind) (c .numbers)) columns) fallen
     (need (leb (7 * largest (map (λ c. length (c .numbers)) columns)) work) shortWork
     (need (leb (length (sheetBytes columns)) mostBytes && leb (length (sheetBytes columns)) room) noRoom
     (given (sheetBytes columns)))))
@@ -59,7 +59,7 @@ writeApart kinds plans counts numbers work room =
 -- ---- check: all columns in turn
 unfoldable pub check : List ℕ → ℕ → Verdict
 check sheet work =
-    sound sheet then ask (leb (8 * largestCount sheet) work) shortWork then inTurn readColumn 0 (columnsOf sheet)
+    sound sheet then ask (leb (8 * largestCount sheet) work) shortWork then inTurn checkColumn 0 (columnsOf sheet)
 
 -- ---- one column
 -- a column of a sheet: as every operation on a sheet; then 5

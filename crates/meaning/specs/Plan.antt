@@ -2,13 +2,13 @@
 -- followed by two. Here it is a tree, `bad` where its bytes are malformed.
 use Prim.Native.Nat.{ℕ, zero, suc, _+_}
 use mathlib.Core.Bool.{Bool, true, false, _&&_, cond}
-use mathlib.Core.List.{List, [], _∷_, _++_}
+use mathlib.Core.List.{List, _∷_}
 use lib.Dec.{leb, eqb}
 use lib.ListN.{length, getD, drop, replicate}
-use Rattle.meaning.specs.Answer.{Answer, given, refused, bind, need}
+use Rattle.meaning.specs.Answer.{Answer, given, need}
 use Rattle.meaning.specs.Limits.{planBytes, mostStages, mostNumbers, any, rising, badPlan, unfitPlan, badOrders}
 use Rattle.meaning.specs.Lists.{all}
-use Rattle.meaning.specs.Codes.{Code, isCode, codeOf}
+use Rattle.meaning.specs.Codes.{isCode, codeOf}
 
 pub data Plan : Type 0 where
   bad : Plan

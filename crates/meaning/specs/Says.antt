@@ -7,7 +7,6 @@ use Rattle.meaning.specs.Operations.{noTally}
 use Rattle.meaning.specs.declared.Position.{Position}
 use Rattle.meaning.specs.declared.Unit.{Unit as UnitTold}
 use Rattle.meaning.specs.declared.Unit.the-variants as unit
-use Rattle.meaning.specs.declared.UnitRead.{UnitRead}
 use Rattle.meaning.specs.declared.Judged.{Judged}
 use Rattle.meaning.specs.declared.Judged.the-variants as judged
 use Rattle.meaning.specs.declared.Sized.{Sized}

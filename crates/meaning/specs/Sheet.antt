@@ -3,9 +3,9 @@
 use Prim.Native.Nat.{ℕ, zero, suc, _+_, _*_}
 use mathlib.Core.Bool.{Bool, true, _&&_, cond}
 use mathlib.Core.List.{List, [], _∷_, _++_, map}
-use lib.Dec.{leb, ltb, eqb}
+use lib.Dec.{leb, eqb}
 use lib.ListN.{length, getD, take, drop}
-use Rattle.meaning.specs.Answer.{Answer, given, refused, bind, need, Verdict, _then_, ask, inTurn}
+use Rattle.meaning.specs.Answer.{Answer, given, bind, need, Verdict, _then_, ask, inTurn}
 use Rattle.meaning.specs.Limits.{mostColumns, mostNumbers, mostBytes, planBytes, rising, noSheet, badTable, fault}
 use Rattle.meaning.specs.Lists.{all, sum, joined, largest, rises}
 use Rattle.meaning.specs.Bytes.{word, wordAt}
@@ -16,6 +16,50 @@ use Rattle.meaning.specs.Stages.{write, read}
 unfoldable pub ofKind : ℕ → List ℕ → Bool
 ofKind kind xs = cond (eqb kind rising) (rises xs) true
 
+-- ---- an entry of the table: kind, 15 plan bytes, count (4 bytes), body length (4 bytes). Its size and layout are the sheet's edition's
+pub record Entry : Type 0 where
+  pub kind : ℕ
+  pub plan : List ℕ
+  pub count : ℕ
+  pub size : ℕ
+
+-- how many bytes it takes, and where in them its plan, its count and its body's length stand
+abbrev pub entrySize : ℕ → ℕ
+entrySize edition = 24
+
+abbrev pub planIn : ℕ
+planIn = 1
+
+abbrev pub countIn : ℕ
+countIn = 16
+
+abbrev pub sizeIn : ℕ
+sizeIn = 20
+
+-- laid down
+unfoldable pub entryBytes : ℕ → Entry → List ℕ
+entryBytes edition e = e .kind ∷ (e .plan ++ (word (e .count) ++ word (e .size)))
+
+-- read, where it stands first in some bytes
+abbrev pub entryIn : ℕ → List ℕ → Entry
+entryIn edition bytes =
+    record { kind = getD bytes 0 0; plan = take planBytes (drop planIn bytes); count = wordAt bytes countIn; size = wordAt bytes sizeIn }
+
+-- ---- a column: what its entry says, and its body
+pub record Column : Type 0 where
+  pub kind : ℕ
+  pub plan : List ℕ
+  pub count : ℕ
+  pub size : ℕ
+  pub body : List ℕ
+
+abbrev pub entryOf : Column → Entry
+entryOf c = record { kind = c .kind; plan = c .plan; count = c .count; size = c .size }
+
+-- a sheet put together: its edition, the number of columns, their entries, their bodies
+unfoldable pub assemble : ℕ → List Column → List ℕ
+assemble edition cs = edition ∷ length cs ∷ (joined (λ c. entryBytes edition (entryOf c)) cs ++ joined (λ c. c .body) cs)
+
 -- ---- written: a column by its kind, the plan really used and its numbers
 pub record Listed : Type 0 where
   pub kind : ℕ
@@ -25,56 +69,51 @@ pub record Listed : Type 0 where
 abbrev pub bodyOf : Listed → List ℕ
 bodyOf l = write (planOf (l .plan)) (l .numbers)
 
-unfoldable pub entryBytes : Listed → List ℕ
-entryBytes l = l .kind ∷ (l .plan ++ (word (length (l .numbers)) ++ word (length (bodyOf l))))
+abbrev pub columnFor : Listed → Column
+columnFor l = record { kind = l .kind; plan = l .plan; count = length (l .numbers); size = length (bodyOf l); body = bodyOf l }
 
 unfoldable pub sheetBytes : List Listed → List ℕ
-sheetBytes ls = 1 ∷ length ls ∷ (joined entryBytes ls ++ joined bodyOf ls)
-
-abbrev pub entrySize : ℕ
-entrySize = 24
+sheetBytes ls = assemble 1 (map columnFor ls)
 
 -- 2, 24 a column, the plans' sums
 unfoldable pub worstSheet : List Listed → ℕ
-worstSheet ls = 2 + sum (map (λ l. entrySize + worstPlan (planOf (l .plan)) (length (l .numbers))) ls)
+worstSheet ls = 2 + sum (map (λ l. entrySize 1 + worstPlan (planOf (l .plan)) (length (l .numbers))) ls)
 
--- ---- read: a column by its entry and its body
-pub record Column : Type 0 where
-  pub kind : ℕ
-  pub plan : List ℕ
-  pub count : ℕ
-  pub size : ℕ
-  pub body : List ℕ
+-- ---- read: a column whose entry stands first in some bytes of the table and whose body stands first in some others
+abbrev pub columnIn : ℕ → List ℕ → List ℕ → Column
+columnIn edition table bodies =
+    let e = entryIn edition table in
+    record { kind = e .kind; plan = e .plan; count = e .count; size = e .size; body = take (e .size) bodies }
 
--- a column whose entry stands first in some bytes of the table and whose body stands first in some others
-abbrev pub columnIn : List ℕ → List ℕ → Column
-columnIn table bodies =
-    record {
-      kind = getD table 0 0;
-      plan = take planBytes (drop 1 table);
-      count = wordAt table 16;
-      size = wordAt table 20;
-      body = take (wordAt table 20) bodies;
-    }
+unfoldable pub columnsIn : ℕ → ℕ → List ℕ → List ℕ → List Column
+columnsIn edition zero table bodies = []
+columnsIn edition (suc k) table bodies =
+    columnIn edition table bodies ∷ columnsIn edition k (drop (entrySize edition) table) (drop (entryIn edition table .size) bodies)
 
-unfoldable pub columnsIn : ℕ → List ℕ → List ℕ → List Column
-columnsIn zero table bodies = []
-columnsIn (suc k) table bodies =
-    columnIn table bodies ∷ columnsIn k (drop entrySize table) (drop (wordAt table 20) bodies)
+-- byte 0, and byte 1
+abbrev pub editionOf : List ℕ → ℕ
+editionOf sheet = getD sheet 0 0
+
+abbrev pub columnCount : List ℕ → ℕ
+columnCount sheet = getD sheet 1 0
 
 abbrev pub tableSize : List ℕ → ℕ
-tableSize sheet = 2 + entrySize * getD sheet 1 0
+tableSize sheet = 2 + entrySize (editionOf sheet) * columnCount sheet
 
 unfoldable pub columnsOf : List ℕ → List Column
-columnsOf sheet = columnsIn (getD sheet 1 0) (drop 2 sheet) (drop (tableSize sheet) sheet)
+columnsOf sheet = columnsIn (editionOf sheet) (columnCount sheet) (drop 2 sheet) (drop (tableSize sheet) sheet)
 
 abbrev pub columnAt : List ℕ → ℕ → Column
 columnAt sheet k = getD (columnsOf sheet) k (record { kind = 0; plan = []; count = 0; size = 0; body = [] })
 
+-- where column k's body begins: after the table and the bodies before it
+abbrev pub bodyBegins : List ℕ → ℕ → ℕ
+bodyBegins sheet k = tableSize sheet + sum (map (λ c. c .size) (take k (columnsOf sheet)))
+
 -- from 2 to 65,536 bytes, byte 0 is 1, at most 16 columns
 unfoldable pub isSheet : List ℕ → Bool
 isSheet sheet =
-    leb 2 (length sheet) && (leb (length sheet) mostBytes && (eqb (getD sheet 0 0) 1 && leb (getD sheet 1 0) mostColumns))
+    leb 2 (length sheet) && (leb (length sheet) mostBytes && (eqb (editionOf sheet) 1 && leb (columnCount sheet) mostColumns))
 
 -- the table is whole, kinds are at most 1, counts at most 1,024, and the body lengths fill the rest
 unfoldable pub tableHolds : List ℕ → Bool
@@ -93,6 +132,10 @@ sound sheet =
 -- reading a column applies all of its plan, and kind 1 must rise
 unfoldable pub readColumn : Column → Answer (List ℕ)
 readColumn c = bind (read (planOf (c .plan)) (c .body) (c .count)) (λ xs. need (ofKind (c .kind) xs) fault (given xs))
+
+-- what the check asks of a column: that it can be read
+unfoldable pub checkColumn : Column → Answer (List ℕ)
+checkColumn c = readColumn c
 
 unfoldable pub largestCount : List ℕ → ℕ
 largestCount sheet = largest (map (λ c. c .count) (columnsOf sheet))

@@ -1,14 +1,14 @@
 -- The three stages, and bodies by a plan: written, strictly read, looked up.
 use Prim.Native.Nat.{ℕ, zero, suc, _+_, _-_, min}
-use mathlib.Core.Bool.{Bool, true, false, _&&_, cond}
+use mathlib.Core.Bool.{Bool, _&&_, cond}
 use mathlib.Core.List.{List, [], _∷_, _++_, map}
 use lib.Dec.{leb, ltb, eqb}
-use lib.ListN.{length, getD, take, drop, replicate}
+use lib.ListN.{length, take, drop, replicate}
 use Rattle.meaning.specs.Answer.{Answer, given, refused, bind, need}
 use Rattle.meaning.specs.Limits.{numberLimit, fault}
 use Rattle.meaning.specs.Lists.{all, sum, differ}
 use Rattle.meaning.specs.Bytes.{word, wordAt}
-use Rattle.meaning.specs.Codes.{Code, codeOf, readCode, lookCode}
+use Rattle.meaning.specs.Codes.{codeOf, readCode, lookCode}
 use Rattle.meaning.specs.Plan.{Plan, bad, code, reference, differences, runs}
 
 -- ---- reference: the least number (0 for an empty list), then the list less it
@@ -110,13 +110,15 @@ unfoldable pub total : (ℕ → Answer ℕ) → ℕ → Answer ℕ
 total at zero = given 0
 total at (suc k) = bind (total at k) (λ s. bind (at k) (λ x. given (s + x)))
 
--- the run that holds the place, from run j on before which s numbers stand, of k runs that are left: no length is zero, no sum is above n
+-- the run that holds a place of n: `left` runs may still come, the next is run j, and `before` numbers stand before it. A run ends where its length
+-- takes it; no length is zero, and no run ends above n
 unfoldable pub seek : (ℕ → Answer ℕ) → ℕ → ℕ → ℕ → ℕ → ℕ → Answer ℕ
-seek lengthAt n place zero j s = refused fault
-seek lengthAt n place (suc k) j s =
-    bind (lengthAt j) (λ l.
-    need (leb 1 l) fault
-    (need (leb (s + l) n) fault (cond (ltb place (s + l)) (given j) (seek lengthAt n place k (j + 1) (s + l)))))
+seek lengthAt n place zero j before = refused fault
+seek lengthAt n place (suc left) j before =
+    bind (lengthAt j) (λ long.
+    need (leb 1 long) fault
+    (need (leb (before + long) n) fault
+    (cond (ltb place (before + long)) (given j) (seek lengthAt n place left (j + 1) (before + long)))))
 
 unfoldable pub look : Plan → List ℕ → ℕ → ℕ → Answer ℕ
 look bad body n place = refused fault

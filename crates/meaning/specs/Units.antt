@@ -14,6 +14,7 @@ use Rattle.meaning.specs.Limits.{fault}
 module _ {P : Type 0} (unit : ℕ → P → Answer (P × List ℕ)) (joins : List ℕ → List ℕ → Bool) (done : P → Bool) where
   unfoldable pub readFrom : ℕ → ℕ → List ℕ → P → Answer (List ℕ)
   readFrom zero zero before p = need (done p) fault (given [])
+  -- not reached: numbers are left and no unit may come, but each unit holds a number
   readFrom zero (suc n) before p = refused fault
   readFrom (suc units) zero before p = need (done p) fault (given [])
   readFrom (suc units) (suc n) before p =
@@ -27,6 +28,7 @@ module _ {P : Type 0} (unit : ℕ → P → Answer (P × List ℕ)) (joins : Lis
 
 module _ {P : Type 0} (unit : ℕ → P → Answer (P × List ℕ)) where
   unfoldable pub lookFrom : ℕ → ℕ → ℕ → P → Answer ℕ
+  -- not reached where the place is below the count
   lookFrom zero left place p = refused fault
   lookFrom (suc units) left place p =
       bind (unit left p) (λ u.

@@ -1,7 +1,7 @@
 -- VByte: 7 bits a byte, lowest first, top bit 1 when more follows. At most 5 bytes, the fifth at most 15, the last not 0 unless alone.
 -- Unit: one number.
 use Prim.Native.Nat.{ℕ, zero, suc, _+_, _-_, _*_, _/_, _%_}
-use mathlib.Core.Bool.{Bool, not, cond}
+use mathlib.Core.Bool.{not, cond}
 use mathlib.Core.List.{List, [], _∷_}
 use lib.Dec.{ltb, leb, eqb}
 use lib.ListN.{drop}

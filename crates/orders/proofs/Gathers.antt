@@ -51,17 +51,21 @@ module _ (orders : List Order) where
     abbrev Written : Type 0
     Written = writeGathered (gathered orders) numbers work room ≡ writeSheet (map orderSays orders) numbers work room
 
+    -- the answer, by whether there are at most 16
+    abbrev held : Bool → Answer (List ℕ)
+    held b = need b badOrders (writeSheet (map orderSays (take (gathered orders .n) (gathered orders .list))) numbers work room)
+
     over : mostColumns < length orders → Written
     unfolding gathered writeSheet
     over h =
-        ap (λ (b : Bool). need b badOrders (writeSheet (map orderSays (take (gathered orders .n) (gathered orders .list))) numbers work room)) (lt-leb (length orders) mostColumns h)
-        ∙ sym (ap (λ (b : Bool). need b badOrders (writeListed (listedBy (map orderSays orders) numbers) work room)) (many (map orderSays orders) numbers (omega (arith, length-map orders orderSays))))
+        ap held (lt-leb (length orders) mostColumns h)
+        ∙ sym (ap (λ (b : Bool). need b badOrders (writeListed (listedBy (map orderSays orders) numbers) work room))
+        (many (map orderSays orders) numbers (omega (arith, length-map orders orderSays))))
 
     within : length orders ≤ mostColumns → Written
     unfolding gathered
     within h =
-        ap (λ (b : Bool). need b badOrders (writeSheet (map orderSays (take (gathered orders .n) (gathered orders .list))) numbers work room)) (le-leb (length orders) mostColumns h)
-        ∙ ap (λ (l : List Order). writeSheet (map orderSays l) numbers work room) (all-there h)
+        ap held (le-leb (length orders) mostColumns h) ∙ ap (λ (l : List Order). writeSheet (map orderSays l) numbers work room) (all-there h)
 
     -- the list is written by what is gathered of it
     pub gathered-writes : Written

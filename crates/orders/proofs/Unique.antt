@@ -3,23 +3,23 @@ use Prim.Native.Nat.{ℕ}
 use mathlib.Core.Path.{_≡_, sym, _∙_}
 use mathlib.Core.List.{List, [], _∷_, map}
 use lib.ListN.{length}
-use Rattle.meaning.specs.Answer.{amount, filled}
+use Rattle.meaning.specs.Answer.{amount}
 use Rattle.meaning.specs.Operations.{writeSheet}
-use Rattle.meaning.specs.Says.{sizedSays}
 use Rattle.meaning.specs.declared.Sized.{Sized}
 use Rattle.judge.proofs.Unique.{one-sized}
 use Rattle.orders.specs.Orders.{orderSays}
 use Rattle.orders.specs.declared.Order.{Order}
+use Rattle.orders.proofs.Gathers.{Told}
 
 pub one-write : (orders : List Order) (numbers : List ℕ) (work : ℕ) (o o′ o″ : List ℕ) (r r′ : Sized)
-    → (sizedSays r ≡ amount (writeSheet (map orderSays orders) numbers work (length o))) × (o′ ≡ filled (writeSheet (map orderSays orders) numbers work (length o)) o)
-    → (sizedSays r′ ≡ amount (writeSheet (map orderSays orders) numbers work (length o))) × (o″ ≡ filled (writeSheet (map orderSays orders) numbers work (length o)) o)
+    → Told (writeSheet (map orderSays orders) numbers work (length o)) o r o′
+    → Told (writeSheet (map orderSays orders) numbers work (length o)) o r′ o″
     → (r ≡ r′) × (o′ ≡ o″)
 one-write orders numbers work o o′ o″ r r′ e f =
     (one-sized r r′ (amount (writeSheet (map orderSays orders) numbers work (length o))) (e .0) (f .0), e .1 ∙ sym (f .1))
 
 pub one-write-two : (a b : Order) (numbers : List ℕ) (work : ℕ) (o o′ o″ : List ℕ) (r r′ : Sized)
-    → (sizedSays r ≡ amount (writeSheet (map orderSays (a ∷ b ∷ [])) numbers work (length o))) × (o′ ≡ filled (writeSheet (map orderSays (a ∷ b ∷ [])) numbers work (length o)) o)
-    → (sizedSays r′ ≡ amount (writeSheet (map orderSays (a ∷ b ∷ [])) numbers work (length o))) × (o″ ≡ filled (writeSheet (map orderSays (a ∷ b ∷ [])) numbers work (length o)) o)
+    → Told (writeSheet (map orderSays (a ∷ b ∷ [])) numbers work (length o)) o r o′
+    → Told (writeSheet (map orderSays (a ∷ b ∷ [])) numbers work (length o)) o r′ o″
     → (r ≡ r′) × (o′ ≡ o″)
 one-write-two a b = one-write (a ∷ b ∷ [])

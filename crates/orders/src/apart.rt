@@ -2,6 +2,7 @@
 use crate::gathering::Gathered;
 use meaning::BAD_ORDERS;
 use meaning::MOST_COLUMNS;
+use meaning::Offset;
 use meaning::PLAN_BYTES;
 use meaning::Sized;
 ghost use mathlib.Core.Path.{_≡_};
@@ -14,13 +15,14 @@ ghost use Rattle.meaning.specs.Says.{sizedSays};
 ghost use Rattle.orders.specs.Gathering.{writeGathered};
 
 // A plan's bytes, of which there are 15, are put at an offset of all plans.
-fn put_plan(plan: [u8; 15], plans: &mut [u8], at: usize)
-    requires { ⌜ at + planBytes ≤ length (now plans) ⌝ }
-    ensures { λ _. ⌜ (now (plans .exit) ≡ sets (now (plans .entry)) at plan) × (length plan ≡ planBytes) ⌝ }
+fn put_plan(plan: [u8; 15], plans: &mut [u8], at: Offset)
+    requires { ⌜ at .byte + planBytes ≤ length (now plans) ⌝ }
+    ensures { λ _. ⌜ (now (plans .exit) ≡ sets (now (plans .entry)) (at .byte) plan) × (length plan ≡ planBytes) ⌝ }
 {
+    let start = at.byte;
     let mut j: usize = 0;
     while j < PLAN_BYTES {
-        plans[at + j] = plan[j];
+        plans[start + j] = plan[j];
         j += 1;
     }
 }
@@ -41,7 +43,8 @@ pub fn write_gathered(g: Gathered, joined: &[u32], work: &mut [u32], out: &mut [
         let o = g.list[i];
         let plan = o.plan;
         kinds[i] = o.kind;
-        put_plan(plan, &mut plans, PLAN_BYTES * i);
+        let byte = PLAN_BYTES * i;
+        put_plan(plan, &mut plans, Offset { byte });
         counts[i] = o.count;
         i += 1;
     }

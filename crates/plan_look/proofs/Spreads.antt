@@ -9,7 +9,6 @@ use lib.ListN.{length, getD, take}
 use lib.Seq.{length-take-le, getD-take}
 use borrow.Author.Tests.{lt-ltb, le-ltb}
 use Rattle.meaning.specs.Answer.{Answer, given, refused, bind}
-use Rattle.meaning.specs.Limits.{fault}
 use Rattle.meaning.specs.Lists.{sum}
 use Rattle.meaning.specs.Places.{part}
 use Rattle.meaning.specs.Stages.{unroll, seek}

@@ -1,6 +1,5 @@
 -- What a stage makes of the lookups below it, as the meaning's `look` says it.
 use Prim.Native.Nat.{ℕ, _+_, _*_, min}
-use mathlib.Core.Path.{_≡_}
 use mathlib.Core.Bool.{cond}
 use mathlib.Core.List.{List}
 use lib.Dec.{ltb}

@@ -122,7 +122,7 @@ pub fn firsts_plan(
             if body.len() < 4 {
                 return ended(0, k, FAULT);
             }
-            let m = word_at(body, 0);
+            let m = word_at(body, Offset { byte: 0 });
             let got = firsts_plan(plan, next, less, &body[4..], n, k, work, from);
             let count = raise_firsts(work, from, got.count, m);
             cut_at(got, count)

@@ -148,7 +148,7 @@ pub fn lookup_plan(
             if body.len() < 4 {
                 return Found::Refused(FAULT);
             }
-            let m = long(word_at(body, 0));
+            let m = long(word_at(body, Offset { byte: 0 }));
             match lookup_plan(plan, next, less, &body[4..], n, place) {
                 Found::Refused(e) => Found::Refused(e),
                 Found::Number(x) => number_of(m + long(x)),

@@ -5,7 +5,7 @@ use mathlib.Core.List.{List}
 use native.Mathlib.Omega.{arith}
 use lib.ListN.{length, take, drop}
 use borrow.Author.Tests.{le-leb, lt-leb}
-use Rattle.meaning.specs.Answer.{Answer, refused, bind}
+use Rattle.meaning.specs.Answer.{Answer, bind}
 use Rattle.meaning.specs.Bytes.{wordAt}
 use Rattle.meaning.specs.Codes.{codeOf, readCode}
 use Rattle.meaning.specs.Limits.{fault}

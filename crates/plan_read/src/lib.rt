@@ -41,7 +41,7 @@ pub fn read_plan(
             if body.len() < 4 {
                 return Reading::Refused(FAULT);
             }
-            let m = word_at(body, 0);
+            let m = word_at(body, Offset { byte: 0 });
             match read_plan(plan, next, less, &body[4..], n, work, from) {
                 Reading::Refused(e) => Reading::Refused(e),
                 Reading::Whole(_) => raise(work, from, n, m),

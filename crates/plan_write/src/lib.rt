@@ -5,6 +5,7 @@ use fields::put_word;
 use judge::stage::Stage;
 use judge::stage::plan_end;
 use judge::stage::stage_at;
+use leaves::word_of;
 use meaning::Offset;
 use meaning::Place;
 use stages::gaps_into;
@@ -12,20 +13,11 @@ use stages::least_of;
 use stages::less_into;
 use stages::runs_into;
 ghost use Prim.Native.Nat.{_+_, _*_, _^_, _≤_, _<_};
-ghost use mathlib.Core.Path.{_≡_};
 ghost use lib.ListN.{length, take};
 ghost use Rattle.meaning.specs.Limits.{mostNumbers};
 ghost use Rattle.meaning.specs.Places.{part};
 ghost use Rattle.meaning.specs.Plan.{planAt, planOf, planSize, runs};
 ghost use Rattle.plan_write.specs.Written.{Fit, FitRuns, Written};
-
-// A count of numbers or bytes as a header's number.
-fn word_of(x: usize) -> u32
-    requires { ⌜ x < 2 ^ 32 ⌝ }
-    ensures { λ r. ⌜ r ≡ x ⌝ }
-{
-    x as u32
-}
 
 // Writes n numbers by the plan that begins at an offset of the plan's bytes. Answers where their bytes end.
 pub fn write_plan(
@@ -48,7 +40,7 @@ pub fn write_plan(
             let first = from.number;
             let start = at.byte;
             let m = least_of(work, from, n);
-            put_word(out, start, m);
+            put_word(out, at, m);
             less_into(work, from, n, m);
             write_plan(
                 plan,
@@ -97,7 +89,7 @@ fn write_runs(
     let start = at.byte;
     let second = plan_end(plan, pos, stages);
     let k = runs_into(work, from, n);
-    put_word(out, start, word_of(k));
+    put_word(out, at, word_of(k));
     let end = write_plan(
         plan,
         pos,
@@ -111,7 +103,7 @@ fn write_runs(
         Offset { byte: start + 8 },
     );
     let stop = end.byte;
-    put_word(out, start + 4, word_of(stop - (start + 8)));
+    put_word(out, Offset { byte: start + 4 }, word_of(stop - (start + 8)));
     write_plan(
         plan,
         second,

@@ -1,6 +1,6 @@
 -- What checking a sheet answers, over plain variables. Assumes nothing.
 use Prim.Native.Nat.{ℕ, zero, suc, _+_, _*_, _≤_, _<_}
-use mathlib.Core.Path.{_≡_, sym, ap, _∙_}
+use mathlib.Core.Path.{_≡_, sym, _∙_}
 use mathlib.Core.Bool.{true}
 use mathlib.Core.List.{List, [], _∷_, map}
 use native.Mathlib.Nat.{le-max-left, le-max-right, max-le}
@@ -12,21 +12,20 @@ use Rattle.meaning.specs.Answer.{given, passed, blamed, ask, inTurn}
 use Rattle.meaning.specs.Limits.{mostNumbers, rising, shortWork}
 use Rattle.meaning.specs.Lists.{all, largest}
 use Rattle.meaning.specs.Operations.{check}
-use Rattle.meaning.specs.Places.{Got, part}
-use Rattle.meaning.specs.Sheet.{Column, columnsOf, columnAt, sound, readColumn, largestCount}
+use Rattle.meaning.specs.Places.{Got}
+use Rattle.meaning.specs.Sheet.{Column, columnsOf, columnAt, sound, readColumn, checkColumn, largestCount, columnCount}
 use Rattle.meaning.specs.declared.Reading.{Reading}
 use Rattle.meaning.specs.declared.Reading.the-variants.{Whole, Refused}
 use Rattle.meaning.proofs.Tests.{both-true}
-use Rattle.stages.proofs.Gots.{got-given, got-not}
-use Rattle.table.specs.Entries.{EntryIs}
-use Rattle.table.specs.Offsets.{columnCount, blankColumn}
+use Rattle.table.specs.Entries.{Here, EntryIs}
+use Rattle.table.specs.Offsets.{blankColumn}
 use Rattle.table.specs.Rules.{entryHolds}
 use Rattle.table.specs.declared.Entry.{Entry}
 use Rattle.table.proofs.Columns.{column-count}
 use Rattle.table.proofs.InTurn.{PassedBelow, below-turn, below-refuse, below-end, each-passed}
 use Rattle.table.proofs.Sounds.{ask-passed, then-passed, sound-table}
-use Rattle.sheet.specs.Opened.{columnOf, Ready}
-use Rattle.sheet.proofs.Entered.{column-of}
+use Rattle.sheet.specs.Opened.{columnOf, Readable, Ready}
+use Rattle.sheet.proofs.Entered.{entry-given, entry-refused, readable}
 
 -- ---- no count is above the largest
 each-most : {A : Type 0} (f : A → ℕ) (cs : List A) (d : A) (i : ℕ) → i < length cs → f (getD cs i d) ≤ largest (map f cs)
@@ -63,38 +62,62 @@ module _ (sheet : List ℕ) (work : ℕ) where
     unfolding check
     check-short h = rw (s, lt-leb (8 * largestCount sheet) work h)
 
-    pub check-bodies : 8 * largestCount sheet ≤ work → check sheet work ≡ inTurn readColumn 0 (columnsOf sheet)
+    pub check-bodies : 8 * largestCount sheet ≤ work → check sheet work ≡ inTurn checkColumn 0 (columnsOf sheet)
     unfolding check
     check-bodies h = rw (s, le-leb (8 * largestCount sheet) work h)
 
   -- ---- and what a check that passed says
   pub record Passed : Type 0 where
     pub ready : Ready sheet work
-    pub bodies : inTurn readColumn 0 (columnsOf sheet) ≡ passed
+    pub bodies : inTurn checkColumn 0 (columnsOf sheet) ≡ passed
 
   pub check-passed : check sheet work ≡ passed → Passed
   unfolding check
   check-passed e =
       let (a, e₁) = then-passed (sound sheet) _ e in
-      let (b, d) = then-passed (ask (leb (8 * largestCount sheet) work) shortWork) (inTurn readColumn 0 (columnsOf sheet)) e₁ in
-      record { ready = record { sounds = a; room = leb-true (8 * largestCount sheet) work (ask-passed (leb (8 * largestCount sheet) work) shortWork b) }; bodies = d }
+      let (b, d) = then-passed (ask (leb (8 * largestCount sheet) work) shortWork) (inTurn checkColumn 0 (columnsOf sheet)) e₁ in
+      let room = leb-true (8 * largestCount sheet) work (ask-passed (leb (8 * largestCount sheet) work) shortWork b) in
+      record { ready = record { sounds = a; room = room }; bodies = d }
 
   -- every column was read
   pub column-passed : check sheet work ≡ passed → (k : ℕ) → k < columnCount sheet → (xs : List ℕ) × (readColumn (columnAt sheet k) ≡ given xs)
-  column-passed e k h = each-passed readColumn (columnsOf sheet) blankColumn 0 k (check-passed e .bodies) (omega (arith, column-count sheet))
+  unfolding checkColumn
+  column-passed e k h = each-passed checkColumn (columnsOf sheet) blankColumn 0 k (check-passed e .bodies) (omega (arith, column-count sheet))
 
--- ---- each body in turn
-module _ (sheet : List ℕ) (columns : ℕ) (n : columns ≡ columnCount sheet) (k : ℕ) (so : PassedBelow readColumn (columnsOf sheet) k) where
-  pub bodies-end : columns ≤ k → passed ≡ inTurn readColumn 0 (columnsOf sheet)
-  bodies-end h = sym (below-end readColumn (columnsOf sheet) k so (omega (arith, column-count sheet)))
+-- ---- each body in turn: those below k have passed, and what a turn needs of the sheet and of work
+pub record Checking (sheet w₀ : List ℕ) (columns : ℕ) (w : List ℕ) (k : ℕ) : Type 0 where
+  pub ready : Ready sheet (length w₀)
+  pub counted : columns ≡ columnCount sheet
+  pub long : length w ≡ length w₀
+  pub below : PassedBelow checkColumn (columnsOf sheet) k
 
-  module _ (h : k < columns) (e : Entry) (is : EntryIs sheet k e) (w w₁ : List ℕ) (q : Reading) (got : Got (readColumn (columnOf sheet e)) 0 w w₁ q) where
-    pub bodies-turn : (m : ℕ) → q ≡ Whole m → PassedBelow readColumn (columnsOf sheet) (k + 1)
-    bodies-turn m t =
-        below-turn readColumn (columnsOf sheet) blankColumn k so (omega (arith, column-count sheet)) (part w₁ 0 m)
-        (ap readColumn (sym (column-of sheet k e is)) ∙ got-given (readColumn (columnOf sheet e)) 0 w w₁ q got m t .0)
+module _ {sheet w₀ : List ℕ} {columns : ℕ} {w : List ℕ} {k : ℕ} (so : Checking sheet w₀ columns w k) where
+  pub bodies-end : columns ≤ k → passed ≡ inTurn checkColumn 0 (columnsOf sheet)
+  bodies-end h = sym (below-end checkColumn (columnsOf sheet) k (so .below) (omega (arith, so .counted, column-count sheet)))
 
-    pub bodies-refuse : (z : ℕ) → q ≡ Refused z → blamed z k ≡ inTurn readColumn 0 (columnsOf sheet)
-    bodies-refuse z t =
-        sym (below-refuse readColumn (columnsOf sheet) blankColumn k so (omega (arith, column-count sheet)) z
-        (ap readColumn (sym (column-of sheet k e is)) ∙ got-not (readColumn (columnOf sheet e)) 0 w w₁ q got z t))
+  module _ (h : k < columns) where
+    pub bodies-here : Here sheet k
+    bodies-here = record { sounds = so .ready .sounds; exists = omega (arith, so .counted) }
+
+    inside : k < length (columnsOf sheet)
+    inside = omega (arith, so .counted, column-count sheet)
+
+    module _ {e : Entry} (is : EntryIs sheet k e) where
+      pub bodies-readable : Readable sheet w e
+      bodies-readable =
+          readable is bodies-here (omega (arith, is .count, count-most sheet k (bodies-here .exists), so .ready .room, so .long))
+
+      module _ {w₁ : List ℕ} {q : Reading} (got : Got (readColumn (columnOf sheet e)) 0 w w₁ q) where
+        pub bodies-turn : {m : ℕ} → q ≡ Whole m → length w₁ ≡ length w → Checking sheet w₀ columns w₁ (k + 1)
+        unfolding checkColumn
+        bodies-turn t l =
+            record {
+              ready = so .ready;
+              counted = so .counted;
+              long = l ∙ so .long;
+              below = below-turn checkColumn (columnsOf sheet) blankColumn k (so .below) inside _ (entry-given is got t .0);
+            }
+
+        pub bodies-refuse : {z : ℕ} → q ≡ Refused z → blamed z k ≡ inTurn checkColumn 0 (columnsOf sheet)
+        unfolding checkColumn
+        bodies-refuse t = sym (below-refuse checkColumn (columnsOf sheet) blankColumn k (so .below) inside _ (entry-refused is got t))

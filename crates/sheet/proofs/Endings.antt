@@ -3,7 +3,7 @@ use Prim.Native.Nat.{ℕ, _+_, _≤_, _<_}
 use mathlib.Core.Path.{_≡_, refl, sym, ap, _∙_}
 use mathlib.Core.Bool.{Bool, true, false, _&&_, cond}
 use mathlib.Core.List.{List, []}
-use native.Mathlib.Nat.{add-zero, add-assoc}
+use native.Mathlib.Nat.{add-zero}
 use native.Mathlib.Numerals.{add-one}
 use native.Mathlib.Omega.{arith}
 use lib.Dec.{leb, eqb}
@@ -40,12 +40,13 @@ module _ (t : Tally) (e : ℕ) where
       rw (ne-eqb 0 e (λ q. a (sym q)), ne-eqb 256 e (λ q. b (sym q)), le-leb 1 e (omega arith), le-leb e 255 (omega arith))
       (λ i. record { passed = p₀ i; failed = t .failed + 1; unended = u₀ i })
 
--- ---- those below i are counted
-pub record TallySo (xs : List ℕ) (t : Tally) (i : ℕ) : Type 0 where
-  pub passed : count (eqb 0) xs ≡ t .passed + count (eqb 0) (drop i xs)
-  pub failed : count (λ e. leb 1 e && leb e 255) xs ≡ t .failed + count (λ e. leb 1 e && leb e 255) (drop i xs)
-  pub unended : count (eqb 256) xs ≡ t .unended + count (eqb 256) (drop i xs)
-  pub ends : HoldBelow (λ e. leb e 256) xs i
+-- ---- of the first n numbers of a slice those below i are counted
+pub record Tallying (w : List ℕ) (n : ℕ) (t : Tally) (i : ℕ) : Type 0 where
+  pub room : n ≤ length w
+  pub passed : count (eqb 0) (take n w) ≡ t .passed + count (eqb 0) (drop i (take n w))
+  pub failed : count (λ e. leb 1 e && leb e 255) (take n w) ≡ t .failed + count (λ e. leb 1 e && leb e 255) (drop i (take n w))
+  pub unended : count (eqb 256) (take n w) ≡ t .unended + count (eqb 256) (drop i (take n w))
+  pub ends : HoldBelow (λ e. leb e 256) (take n w) i
   pub few : (t .passed ≤ i) × (t .failed ≤ i) × (t .unended ≤ i)
 
 count-next : (test : ℕ → Bool) (xs : List ℕ) (i : ℕ) → i < length xs → count test (drop i xs) ≡ cond (test (getD xs i 0)) 1 0 + count test (drop (i + 1) xs)
@@ -53,51 +54,56 @@ unfolding count
 count-next test xs i h = ap (count test) (drop-cons xs i 0 h) ∙ rw add-one
 
 -- one more of one test
-count-turn : (test : ℕ → Bool) (xs : List ℕ) (i m : ℕ) → i < length xs → count test xs ≡ m + count test (drop i xs) → count test xs ≡ m + cond (test (getD xs i 0)) 1 0 + count test (drop (i + 1) xs)
-count-turn test xs i m h so = so ∙ ap (λ (j : ℕ). m + j) (count-next test xs i h) ∙ sym (add-assoc m (cond (test (getD xs i 0)) 1 0) (count test (drop (i + 1) xs)))
+count-turn : (test : ℕ → Bool) (xs : List ℕ) (i m : ℕ) → i < length xs → count test xs ≡ m + count test (drop i xs)
+    → count test xs ≡ m + cond (test (getD xs i 0)) 1 0 + count test (drop (i + 1) xs)
+count-turn test xs i m h so = omega (arith, so, count-next test xs i h)
 
 cond-most : (b : Bool) → cond b 1 0 ≤ 1
 cond-most true = omega arith
 cond-most false = omega arith
 
-turn-one : (xs : List ℕ) (t : Tally) (i : ℕ) → TallySo xs t i → i < length xs → getD xs i 0 ≤ 256 → TallySo xs (withEnding t (getD xs i 0)) (i + 1)
-turn-one xs t i so h l =
-    let e = getD xs i 0 in
-    record {
-      passed = count-turn (eqb 0) xs i (t .passed) h (so .passed);
-      failed = count-turn (λ e. leb 1 e && leb e 255) xs i (t .failed) h (so .failed);
-      unended = count-turn (eqb 256) xs i (t .unended) h (so .unended);
-      ends = hold-turn (λ e. leb e 256) xs 0 i (so .ends) h (le-leb e 256 l);
-      few = (omega (arith, so .few .0, cond-most (eqb 0 e)), omega (arith, so .few .1, cond-most (leb 1 e && leb e 255)), omega (arith, so .few .2, cond-most (eqb 256 e)));
-    }
+pub tally-first : {w : List ℕ} {n : ℕ} → n ≤ length w → Tallying w n noTally 0
+tally-first room =
+    record { room = room; passed = omega arith; failed = omega arith; unended = omega arith; ends = refl; few = (omega arith, omega arith, omega arith) }
 
-tally-all : (xs : List ℕ) (t : Tally) (i : ℕ) → TallySo xs t i → drop i xs ≡ [] → t ≡ tallyOf xs
-unfolding tallyOf count
-tally-all xs t i so none =
-    let p : t .passed ≡ count (eqb 0) xs = omega (arith, so .passed, ap (count (eqb 0)) none) in
-    let f : t .failed ≡ count (λ e. leb 1 e && leb e 255) xs = omega (arith, so .failed, ap (count (λ e. leb 1 e && leb e 255)) none) in
-    let u : t .unended ≡ count (eqb 256) xs = omega (arith, so .unended, ap (count (eqb 256)) none) in
-    λ i. record { passed = p i; failed = f i; unended = u i }
+module _ {w : List ℕ} {n : ℕ} {t : Tally} {i : ℕ} (so : Tallying w n t i) where
+  tally-all : drop i (take n w) ≡ [] → t ≡ tallyOf (take n w)
+  unfolding tallyOf count
+  tally-all none =
+      let xs = take n w in
+      let p : t .passed ≡ count (eqb 0) xs = omega (arith, so .passed, ap (count (eqb 0)) none) in
+      let f : t .failed ≡ count (λ e. leb 1 e && leb e 255) xs = omega (arith, so .failed, ap (count (λ e. leb 1 e && leb e 255)) none) in
+      let u : t .unended ≡ count (eqb 256) xs = omega (arith, so .unended, ap (count (eqb 256)) none) in
+      λ i. record { passed = p i; failed = f i; unended = u i }
 
-module _ (w : List ℕ) (n : ℕ) (room : n ≤ length w) where
-  pub tally-first : TallySo (take n w) noTally 0
-  tally-first = record { passed = omega arith; failed = omega arith; unended = omega arith; ends = refl; few = (omega arith, omega arith, omega arith) }
+  pub tally-end : n ≤ i → (passed, t) ≡ endingsTold (take n w)
+  tally-end h =
+      let over : length (take n w) ≤ i = omega (arith, length-take n w) in
+      let yes : all (λ e. leb e 256) (take n w) ≡ true = hold-end (λ e. leb e 256) (take n w) i (so .ends) over in
+      rw yes (ap (λ (r : Tally). (passed, r)) (tally-all (drop-of-length-le (take n w) {i = i} over)))
 
-  module _ (t : Tally) (i : ℕ) (so : TallySo (take n w) t i) where
-    pub tally-turn : i < n → getD w i 0 ≤ 256 → (t′ : Tally) → t′ ≡ withEnding t (getD w i 0) → TallySo (take n w) t′ (i + 1)
-    tally-turn h l t′ e =
-        let at = getD-take n w i 0 h in
-        let next = turn-one (take n w) t i so (omega (arith, length-take-le n w room)) (omega (arith, at)) in
-        rw (e, ← at) next
+  module _ (h : i < n) where
+    there : i < length (take n w)
+    there = omega (arith, length-take-le n w (so .room))
 
-    pub tally-over : i < n → 256 < getD w i 0 → (blamed badBoard 0, noTally) ≡ endingsTold (take n w)
-    tally-over h l =
-        let no : all (λ e. leb e 256) (take n w) ≡ false =
-        hold-fail (λ e. leb e 256) (take n w) 0 i (so .ends) (omega (arith, length-take-le n w room)) (lt-leb (getD (take n w) i 0) 256 (omega (arith, getD-take n w i 0 h))) in
+    turned : getD (take n w) i 0 ≤ 256 → Tallying w n (withEnding t (getD (take n w) i 0)) (i + 1)
+    turned l =
+        let e = getD (take n w) i 0 in
+        let (p, f, u) = so .few in
+        record {
+          room = so .room;
+          passed = count-turn (eqb 0) (take n w) i (t .passed) there (so .passed);
+          failed = count-turn (λ e. leb 1 e && leb e 255) (take n w) i (t .failed) there (so .failed);
+          unended = count-turn (eqb 256) (take n w) i (t .unended) there (so .unended);
+          ends = hold-turn (λ e. leb e 256) (take n w) 0 i (so .ends) there (le-leb e 256 l);
+          few = (omega (arith, p, cond-most (eqb 0 e)), omega (arith, f, cond-most (leb 1 e && leb e 255)), omega (arith, u, cond-most (eqb 256 e)));
+        }
+
+    pub tally-turn : getD w i 0 ≤ 256 → {t′ : Tally} → t′ ≡ withEnding t (getD w i 0) → Tallying w n t′ (i + 1)
+    tally-turn l e = let at = getD-take n w i 0 h in rw (e, ← at) (turned (omega (arith, at)))
+
+    pub tally-over : 256 < getD w i 0 → (blamed badBoard 0, noTally) ≡ endingsTold (take n w)
+    tally-over l =
+        let over : leb (getD (take n w) i 0) 256 ≡ false = lt-leb (getD (take n w) i 0) 256 (omega (arith, getD-take n w i 0 h)) in
+        let no : all (λ e. leb e 256) (take n w) ≡ false = hold-fail (λ e. leb e 256) (take n w) 0 i (so .ends) there over in
         rw no
-
-    pub tally-end : n ≤ i → (passed, t) ≡ endingsTold (take n w)
-    tally-end h =
-        let none : drop i (take n w) ≡ [] = drop-of-length-le (take n w) {i = i} (omega (arith, length-take n w)) in
-        let yes : all (λ e. leb e 256) (take n w) ≡ true = hold-end (λ e. leb e 256) (take n w) i (so .ends) (omega (arith, length-take n w)) in
-        rw yes (ap (λ (r : Tally). (passed, r)) (tally-all (take n w) t i so none))

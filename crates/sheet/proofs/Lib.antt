@@ -1,5 +1,4 @@
 -- Laws of the operations over a sheet.
-pub mod Copies
 pub mod Entered
 pub mod ReadColumns
 pub mod ReadSheets

@@ -8,10 +8,10 @@ use Rattle.meaning.specs.Answer.{given, list, passed}
 use Rattle.meaning.specs.Operations.{check, column, readSheet, lookSheet, numbersAt}
 use Rattle.meaning.specs.Places.{Below}
 use Rattle.meaning.specs.Plan.{planOf}
-use Rattle.meaning.specs.Sheet.{columnAt, readColumn}
+use Rattle.meaning.specs.Sheet.{columnAt, readColumn, columnCount}
 use Rattle.meaning.proofs.Bounds.{below-take, below-drop}
 use Rattle.stages.proofs.Looks.{looks}
-use Rattle.table.specs.Offsets.{columnCount, sizeAt, bodyOffset}
+use Rattle.table.specs.Offsets.{sizeAt, bodyOffset}
 use Rattle.table.proofs.ColumnLaws.{column-there}
 use Rattle.table.proofs.Columns.{body-is}
 use Rattle.sheet.proofs.Checks.{check-passed, column-passed}
@@ -26,7 +26,9 @@ module _ (sheet : List ℕ) (bytes : Below 256 sheet) (work : ℕ) (passes : che
   found = column-there sheet k (check-passed sheet work passes .ready .sounds) there
 
   pub body-bytes : Below 256 (columnAt sheet k .body)
-  body-bytes = subst (Below 256) (sym (body-is sheet k there)) (below-take 256 (sizeAt sheet k) (drop (bodyOffset sheet k) sheet) (below-drop 256 (bodyOffset sheet k) sheet bytes))
+  body-bytes =
+      subst (Below 256) (sym (body-is sheet k there))
+      (below-take 256 (sizeAt sheet k) (drop (bodyOffset sheet k) sheet) (below-drop 256 (bodyOffset sheet k) sheet bytes))
 
   pub numbers-read : readColumn (columnAt sheet k) ≡ given (numbersAt sheet k)
   unfolding numbersAt

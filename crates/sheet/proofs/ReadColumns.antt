@@ -47,7 +47,8 @@ unfolding ofKind
 rising-is kind xs e = rw (eq-eqb kind rising e)
 
 -- what was read from the parts that are lent for an entry
-module _ (sheet : List ℕ) (e : Entry) (w w₁ : List ℕ) (q : Reading) (lent : Got (read (planOf (planPart sheet e)) (bodyPart sheet e) (e .count)) 0 w w₁ q) where
+module _ (sheet : List ℕ) (e : Entry) {w w₁ : List ℕ} {q : Reading}
+    (lent : Got (read (planOf (planPart sheet e)) (bodyPart sheet e) (e .count)) 0 w w₁ q) where
   abbrev all : Answer (List ℕ)
   all = read (planOf (columnOf sheet e .plan)) (columnOf sheet e .body) (columnOf sheet e .count)
 
@@ -58,11 +59,11 @@ module _ (sheet : List ℕ) (e : Entry) (w w₁ : List ℕ) (q : Reading) (lent 
   unfolding readColumn
   column-any h = subst (λ (a : Answer (List ℕ)). Got a 0 w w₁ q) (any-kept (e .kind) (ne-eqb (e .kind) rising h) all) so
 
-  pub column-stop : (z : ℕ) → q ≡ Refused z → Got (readColumn (columnOf sheet e)) 0 w w₁ (Refused z)
+  pub column-stop : {z : ℕ} → q ≡ Refused z → Got (readColumn (columnOf sheet e)) 0 w w₁ (Refused z)
   unfolding readColumn
-  column-stop z t = got-stop all 0 w w₁ q so (keep (e .kind)) z t
+  column-stop {z} t = got-stop all 0 w w₁ q so (keep (e .kind)) z t
 
-  module _ (n : ℕ) (t : q ≡ Whole n) where
+  module _ {n : ℕ} (t : q ≡ Whole n) where
     pub column-room : 0 + n ≤ length w₁
     column-room = omega (arith, got-given all 0 w w₁ q so n t .1, length-take n w₁)
 
@@ -81,7 +82,8 @@ module _ (sheet : List ℕ) (e : Entry) (w w₁ : List ℕ) (q : Reading) (lent 
           (got-refused (keep (e .kind) (part w₁ 0 n)) 0 w₁ w₁ fault (rw (rising-is (e .kind) (part w₁ 0 n) r, ← y)) refl)
 
 -- a column that was read has as many numbers as its entry says
-pub column-many : (c : Column) (xs : List ℕ) → Below 256 (c .body) → readColumn c ≡ given xs → (read (planOf (c .plan)) (c .body) (c .count) ≡ given xs) × (length xs ≡ c .count)
+pub column-many : (c : Column) (xs : List ℕ) → Below 256 (c .body) → readColumn c ≡ given xs
+    → (read (planOf (c .plan)) (c .body) (c .count) ≡ given xs) × (length xs ≡ c .count)
 unfolding readColumn
 column-many c xs b e =
     let (ys, er, ek) = bind-given (read (planOf (c .plan)) (c .body) (c .count)) (keep (c .kind)) xs e in

@@ -19,7 +19,7 @@ use Rattle.stages.proofs.Gots.{got-given, got-not}
 use Rattle.table.specs.Entries.{Opened}
 use Rattle.table.specs.declared.Entry.{Entry}
 use Rattle.sheet.specs.Opened.{columnOf}
-use Rattle.sheet.proofs.Entered.{column-of, body-bytes}
+use Rattle.sheet.proofs.Entered.{body-bytes, opened-column}
 use Rattle.sheet.proofs.ReadColumns.{column-many}
 
 -- what a reading says and leaves in the output
@@ -60,41 +60,39 @@ module _ (sheet : List ℕ) (k work room : ℕ) where
     read-all h l = rw (told, le-leb (7 * c .count) work h, le-leb (c .count) room l)
 
 -- ---- by the entry
-pub opened-column : (sheet : List ℕ) (k : ℕ) (e : Entry) → Opened sheet k e → column sheet k ≡ given (columnOf sheet e)
-opened-column sheet k e o = o .told ∙ ap (λ (c : Column). given c) (sym (column-of sheet k e (o .entry)))
-
 -- a column that is not there
-pub says-none : (sheet : List ℕ) (k : ℕ) (w out : List ℕ) (z : ℕ) → column sheet k ≡ refused z → ReadSays (readSheet sheet k (length w) (length out)) out out (Refused z)
-says-none sheet k w out z e = says-refused (readSheet sheet k (length w) (length out)) out z (read-none sheet k (length w) (length out) z e)
+pub says-none : (sheet : List ℕ) (k : ℕ) (w out : List ℕ) {z : ℕ} → column sheet k ≡ refused z
+    → ReadSays (readSheet sheet k (length w) (length out)) out out (Refused z)
+says-none sheet k w out {z} e = says-refused (readSheet sheet k (length w) (length out)) out z (read-none sheet k (length w) (length out) z e)
 
-module _ (sheet : List ℕ) (k : ℕ) (w out : List ℕ) (e : Entry) (o : Opened sheet k e) where
+module _ {sheet : List ℕ} {k : ℕ} {e : Entry} (o : Opened sheet k e) (w out : List ℕ) where
   abbrev answer : Answer (List ℕ)
   answer = readSheet sheet k (length w) (length out)
 
   pub says-short : length w < 7 * e .count → ReadSays answer out out (Refused shortWork)
-  says-short h = says-refused answer out shortWork (read-short sheet k (length w) (length out) (columnOf sheet e) (opened-column sheet k e o) h)
+  says-short h = says-refused answer out shortWork (read-short sheet k (length w) (length out) (columnOf sheet e) (opened-column o) h)
 
   module _ (room : 7 * e .count ≤ length w) where
     pub says-full : length out < e .count → ReadSays answer out out (Refused noRoom)
-    says-full h = says-refused answer out noRoom (read-full sheet k (length w) (length out) (columnOf sheet e) (opened-column sheet k e o) room h)
+    says-full h = says-refused answer out noRoom (read-full sheet k (length w) (length out) (columnOf sheet e) (opened-column o) room h)
 
-    module _ (fits : e .count ≤ length out) (w₁ : List ℕ) (q : Reading) (so : Got (readColumn (columnOf sheet e)) 0 w w₁ q) where
+    module _ (fits : e .count ≤ length out) {w₁ : List ℕ} {q : Reading} (so : Got (readColumn (columnOf sheet e)) 0 w w₁ q) where
       is : answer ≡ readColumn (columnOf sheet e)
-      is = read-all sheet k (length w) (length out) (columnOf sheet e) (opened-column sheet k e o) room fits
+      is = read-all sheet k (length w) (length out) (columnOf sheet e) (opened-column o) room fits
 
-      pub says-fault : (z : ℕ) → q ≡ Refused z → ReadSays answer out out (Refused z)
-      says-fault z t = says-refused answer out z (is ∙ got-not (readColumn (columnOf sheet e)) 0 w w₁ q so z t)
+      pub says-fault : {z : ℕ} → q ≡ Refused z → ReadSays answer out out (Refused z)
+      says-fault {z} t = says-refused answer out z (is ∙ got-not (readColumn (columnOf sheet e)) 0 w w₁ q so z t)
 
       -- the numbers that stand in work are those that the entry counts
-      module _ (bytes : Below 256 sheet) (n : ℕ) (t : q ≡ Whole n) where
+      module _ {n : ℕ} (t : q ≡ Whole n) (bytes : Below 256 sheet) where
         got : (readColumn (columnOf sheet e) ≡ given (part w₁ 0 n)) × (length (part w₁ 0 n) ≡ n)
         got = got-given (readColumn (columnOf sheet e)) 0 w w₁ q so n t
 
         counted : n ≡ e .count
         counted = sym (got .1) ∙ column-many (columnOf sheet e) (part w₁ 0 n) (body-bytes sheet e bytes) (got .0) .1
 
-        pub copy-room : (n ≤ length w₁) × (n ≤ length out)
+        pub copy-room : (0 + n ≤ length w₁) × (n ≤ length out)
         copy-room = (omega (arith, got .1, length-take n w₁), omega (arith, counted))
 
-        pub says-copied : (out′ : List ℕ) → out′ ≡ sets out 0 (take n w₁) → ReadSays answer out out′ (Whole n)
-        says-copied out′ put = says-whole answer w₁ out out′ n (is ∙ got .0) (got .1) (omega (arith, counted)) put
+        pub says-copied : {out′ : List ℕ} → out′ ≡ sets out 0 (take n w₁) → ReadSays answer out out′ (Whole n)
+        says-copied {out′} put = says-whole answer w₁ out out′ n (is ∙ got .0) (got .1) (omega (arith, counted)) put

@@ -31,10 +31,11 @@ one-each e h =
     (λ z. by-test (eqb 256 e) (λ t. rw (← (eqb-true 256 e t)))
     (λ y. between (λ q. eqb-false 0 e z (sym q)) (λ q. eqb-false 256 e y (sym q)) z y))
   where
-    between : (e ≡ 0 → ⊥) → (e ≡ 256 → ⊥) → eqb 0 e ≡ false → eqb 256 e ≡ false → cond (eqb 0 e) 1 0 + cond (leb 1 e && leb e 255) 1 0 + cond (eqb 256 e) 1 0 ≡ 1
+    between : (e ≡ 0 → ⊥) → (e ≡ 256 → ⊥) → eqb 0 e ≡ false → eqb 256 e ≡ false
+        → cond (eqb 0 e) 1 0 + cond (leb 1 e && leb e 255) 1 0 + cond (eqb 256 e) 1 0 ≡ 1
     between a b z y = rw (z, y, le-leb 1 e (omega arith), le-leb e 255 (omega arith))
 
-pub total-length : (xs : List ℕ) → all (λ e. leb e 256) xs ≡ true → total (tallyOf xs) ≡ length xs
+total-length : (xs : List ℕ) → all (λ e. leb e 256) xs ≡ true → total (tallyOf xs) ≡ length xs
 unfolding all tallyOf count
 total-length [] h = refl
 total-length (x ∷ xs) h =
@@ -50,5 +51,6 @@ unfolding countBoard boardVerdict
 tallies-sum sheet bytes work t e =
     let (v, is) = tallied-passed (boardVerdict sheet work) (numbersAt sheet 1) t e in
     let (c, b) = then-passed (check sheet work) (ask (boardHolds sheet) badBoard) v in
-    let (jobs, ends) = both-true (jobsHold sheet) (all (λ e. leb e 256) (numbersAt sheet 1)) (sym (board-apart sheet) ∙ ask-passed (boardHolds sheet) badBoard b) in
+    let holds = sym (board-apart sheet) ∙ ask-passed (boardHolds sheet) badBoard b in
+    let (jobs, ends) = both-true (jobsHold sheet) (all (λ e. leb e 256) (numbersAt sheet 1)) holds in
     ap total (sym is) ∙ total-length (numbersAt sheet 1) ends ∙ numbers-many sheet bytes work c 1 (board-second sheet jobs)

@@ -9,9 +9,8 @@ use Rattle.meaning.specs.Answer.{Verdict, passed, ask}
 use Rattle.meaning.specs.Limits.{rising, badBoard}
 use Rattle.meaning.specs.Lists.{all, differ}
 use Rattle.meaning.specs.Operations.{check, numbersAt, tallied}
-use Rattle.meaning.specs.Sheet.{columnsOf, columnAt}
+use Rattle.meaning.specs.Sheet.{columnsOf, columnAt, columnCount}
 use Rattle.meaning.specs.declared.Tally.{Tally}
-use Rattle.table.specs.Offsets.{columnCount}
 
 -- a column of a sheet that passed the check with so much work
 pub record Known (sheet : List ℕ) (k work : ℕ) : Type 0 where

@@ -1,4 +1,4 @@
-// A column's numbers by its entry: read into work, and handed on.
+// A column's numbers by its entry, read into work.
 use meaning::FAULT;
 use meaning::PLAN_BYTES;
 use meaning::Place;
@@ -7,10 +7,6 @@ use meaning::Reading;
 use plan_read::read_list;
 use stages::rises_in;
 use table::Entry;
-ghost use mathlib.Core.Path.{_≡_};
-ghost use Prim.Native.Nat.{_≤_};
-ghost use lib.ListN.{length, take};
-ghost use lib.Seq.{sets};
 ghost use Rattle.meaning.specs.Places.{Got};
 ghost use Rattle.meaning.specs.Sheet.{readColumn};
 ghost use Rattle.sheet.specs.Opened.{columnOf, Readable};
@@ -39,17 +35,5 @@ pub fn read_column(sheet: &[u8], entry: Entry, work: &mut [u32]) -> Reading
             }
             Reading::Refused(FAULT)
         }
-    }
-}
-
-// The first n numbers of work go to the start of the output.
-pub fn copy_list(work: &[u32], n: usize, out: &mut [u32])
-    requires { ⌜ (n ≤ length (now work)) × (n ≤ length (now out)) ⌝ }
-    ensures { λ _. ⌜ now (out .exit) ≡ sets (now (out .entry)) 0 (take n (now (work .entry))) ⌝ }
-{
-    let mut i = 0;
-    while i < n {
-        out[i] = work[i];
-        i += 1;
     }
 }

@@ -2,7 +2,6 @@
 use crate::boards::jobs_hold;
 use crate::boards::read_again;
 use crate::boards::tally_in;
-use crate::columns::copy_list;
 use crate::columns::read_column;
 use meaning::BAD_BOARD;
 use meaning::Checked;
@@ -15,6 +14,7 @@ use meaning::Place;
 use meaning::Reading;
 use meaning::SHORT_WORK;
 use plan_look::lookup_list;
+use stages::copy_list;
 use table::Column;
 use table::column_at;
 use table::entries::column_count;
@@ -26,7 +26,7 @@ ghost use lib.ListN.{length};
 ghost use Rattle.meaning.specs.Answer.{amount, filled, inTurn};
 ghost use Rattle.meaning.specs.Operations.{check as checkOf, readSheet, lookSheet, countBoard};
 ghost use Rattle.meaning.specs.Says.{checkedSays, countedSays, readingSays, foundSays};
-ghost use Rattle.meaning.specs.Sheet.{columnsOf, readColumn};
+ghost use Rattle.meaning.specs.Sheet.{columnsOf, checkColumn};
 ghost use Rattle.sheet.specs.Opened.{Ready};
 
 mod boards;
@@ -35,7 +35,7 @@ mod columns;
 // Reads all columns in turn: the first that is refused is at fault.
 fn check_columns(sheet: &[u8], work: &mut [u32]) -> Checked
     requires { ⌜ Ready (now sheet) (length (now work)) ⌝ }
-    ensures { λ r. ⌜ checkedSays r ≡ inTurn readColumn 0 (columnsOf (now (sheet .entry))) ⌝ }
+    ensures { λ r. ⌜ checkedSays r ≡ inTurn checkColumn 0 (columnsOf (now (sheet .entry))) ⌝ }
 {
     let columns = column_count(sheet);
     let mut k: usize = 0;
@@ -85,7 +85,7 @@ pub fn read(sheet: &[u8], column: usize, work: &mut [u32], out: &mut [u32]) -> R
             match got {
                 Reading::Refused(e) => Reading::Refused(e),
                 Reading::Whole(n) => {
-                    copy_list(work, n, out);
+                    copy_list(work, Place { number: 0 }, n, out);
                     Reading::Whole(n)
                 }
             }

@@ -23,7 +23,8 @@ use Rattle.stages.proofs.Differences.{gaps-sums, Summed, summed-is}
 use Rattle.stages.proofs.Reference.{less-raise, Raised, raised-is}
 use Rattle.stages.proofs.RunsBack.{runs-unroll, unroll-length, unroll-below, Unrolled, unrolled-is}
 use Rattle.stages.proofs.Scans.{lessBy, raisedBy, raise-scan, sums-scan, scan-length}
-use Rattle.stages.proofs.Words.{word-whole, words-whole}
+use Rattle.fields.proofs.Words.{word-whole}
+use Rattle.stages.proofs.Words.{words-whole}
 
 -- ---- a reading taken apart, stage by stage
 pub record ReferenceRead (p : Plan) (body : List ℕ) (n : ℕ) (xs : List ℕ) : Type 0 where

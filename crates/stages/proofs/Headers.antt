@@ -7,7 +7,7 @@ use native.Mathlib.Omega.{arith}
 use lib.Dec.{leb}
 use lib.ListN.{length}
 use borrow.Author.Tests.{le-leb, lt-leb, leb-true}
-use Rattle.meaning.specs.Answer.{Answer, given, refused, need}
+use Rattle.meaning.specs.Answer.{Answer, given, refused}
 use Rattle.meaning.specs.Bytes.{wordAt}
 use Rattle.meaning.specs.Limits.{fault}
 use Rattle.meaning.specs.Stages.{runHeader}

@@ -2,6 +2,7 @@
 pub mod Words
 pub mod Lists
 pub mod Parts
+pub mod Copies
 pub mod Gots
 pub mod Firsts
 pub mod Headers

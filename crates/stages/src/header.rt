@@ -19,11 +19,11 @@ pub fn header_of(body: &[u8], n: usize) -> Header
     if body.len() < 8 {
         return Header::Refused(FAULT);
     }
-    let runs = whole(word_at(body, 0));
+    let runs = whole(word_at(body, Offset { byte: 0 }));
     if n < runs {
         return Header::Refused(FAULT);
     }
-    let size = whole(word_at(body, 4));
+    let size = whole(word_at(body, Offset { byte: 4 }));
     if body.len() - 8 < size {
         return Header::Refused(FAULT);
     }

@@ -203,6 +203,19 @@ pub fn sum_firsts(work: &mut [u32], from: Place, n: usize) -> usize
     i
 }
 
+// n numbers of a list, from a place on, are copied to the start of another.
+pub fn copy_list(list: &[u32], from: Place, n: usize, out: &mut [u32])
+    requires { ⌜ (from .number + n ≤ length (now list)) × (n ≤ length (now out)) ⌝ }
+    ensures { λ _. ⌜ now (out .exit) ≡ sets (now (out .entry)) 0 (part (now (list .entry)) (from .number) n) ⌝ }
+{
+    let first = from.number;
+    let mut i: usize = 0;
+    while i < n {
+        out[i] = list[first + i];
+        i += 1;
+    }
+}
+
 // The sum of a list.
 pub fn total_of(work: &[u32], from: Place, n: usize) -> u64
     requires { ⌜ (from .number + n ≤ length (now work)) × (n ≤ mostNumbers) ⌝ }

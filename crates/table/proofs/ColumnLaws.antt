@@ -1,5 +1,5 @@
 -- What asking for a column and fetching its body answer, over plain variables. Assumes nothing.
-use Prim.Native.Nat.{ℕ, _+_, _-_, _*_, _≤_, _<_}
+use Prim.Native.Nat.{ℕ, _+_, _-_, _≤_, _<_}
 use mathlib.Core.Path.{_≡_, refl, sym, ap, ap₂, _∙_, subst}
 use mathlib.Core.List.{List}
 use native.Mathlib.Omega.{arith}
@@ -9,24 +9,24 @@ use borrow.Author.Tests.{lt-ltb, le-ltb, ltb-true}
 use Rattle.meaning.specs.Answer.{given, refused, need, Verdict, passed, blamed, after}
 use Rattle.meaning.specs.Limits.{planBytes, noColumn}
 use Rattle.meaning.specs.Operations.{column, fetch}
-use Rattle.meaning.specs.Sheet.{Column, entrySize, columnsOf, columnAt, sound}
+use Rattle.meaning.specs.Sheet.{Column, columnsOf, columnAt, sound, columnCount}
 use Rattle.meaning.proofs.Answers.{need-given, not-given}
-use Rattle.table.specs.Offsets.{columnCount, bodyOffset, Within}
+use Rattle.table.specs.Offsets.{planOffset, bodyOffset, Within}
 use Rattle.table.specs.Entries.{Here, EntryIs, Opened, ColumnIs}
 use Rattle.table.specs.declared.Entry.{Entry}
 use Rattle.table.specs.declared.Column.{Column as Told}
 use Rattle.table.specs.declared.Column.the-variants.{At, Refused}
-use Rattle.table.proofs.Columns.{column-count, plan-is, size-is, body-is}
+use Rattle.table.proofs.Columns.{column-count, plan-is, size-is, body-is, begins-so}
 use Rattle.table.proofs.Sounds.{sound-table, sound-column}
 
 -- ---- an entry of a sound sheet
-module _ (sheet : List ℕ) (k : ℕ) (here : Here sheet k) where
+module _ {sheet : List ℕ} {k : ℕ} (here : Here sheet k) where
   pub within : Within sheet k
   within = record { whole = sound-table sheet (here .sounds) .whole; below = here .exists }
 
-  pub entry-is : (e : Entry) → e .kind ≡ columnAt sheet k .kind → e .plan .byte ≡ 3 + entrySize * k → e .count ≡ columnAt sheet k .count
+  pub entry-is : {e : Entry} → e .kind ≡ columnAt sheet k .kind → e .plan .byte ≡ planOffset k → e .count ≡ columnAt sheet k .count
       → e .size ≡ columnAt sheet k .size → e .body .byte ≡ bodyOffset sheet k → EntryIs sheet k e
-  entry-is e kind plan count size body =
+  entry-is kind plan count size body =
       let holds = sound-column sheet (here .sounds) k (here .exists) in
       record {
         kind = kind;
@@ -37,7 +37,7 @@ module _ (sheet : List ℕ) (k : ℕ) (here : Here sheet k) where
         planFits = omega (arith, within .whole, within .below);
         bodyFits = omega (arith, holds .fits);
         planBegins = plan;
-        bodyBegins = body;
+        begins = body ∙ begins-so sheet k (omega (arith, here .exists));
       }
 
 -- ---- a column asked for
@@ -78,9 +78,9 @@ module _ (sheet : List ℕ) (k : ℕ) where
   unfolding fetch
   fetch-refused z e = rw e
 
-  pub fetch-body : (e : Entry) → Opened sheet k e → (from to : ℕ) → from ≡ e .body .byte → to ≡ from + e .size
-      → fetch sheet k ≡ given (take (to - from) (drop from sheet))
-  unfolding fetch
-  fetch-body e o from to ef et =
-      let size : to - from ≡ e .size = omega arith in
-      rw (o .told) (ap (λ (l : List ℕ). given l) (sym (ap₂ (λ (i j : ℕ). take i (drop j sheet)) size ef ∙ o .entry .body)))
+pub fetch-body : {sheet : List ℕ} {k : ℕ} {e : Entry} → Opened sheet k e
+    → fetch sheet k ≡ given (take (e .body .byte + e .size - e .body .byte) (drop (e .body .byte) sheet))
+unfolding fetch
+fetch-body {sheet} {k} {e} o =
+    let size : e .body .byte + e .size - e .body .byte ≡ e .size = omega arith in
+    rw (o .told) (ap (λ (l : List ℕ). given l) (sym (ap (λ (i : ℕ). take i (drop (e .body .byte) sheet)) size ∙ o .entry .body)))

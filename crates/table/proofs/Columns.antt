@@ -1,7 +1,7 @@
 -- A sheet's columns by their number. Assumes nothing.
-use Prim.Native.Nat.{ℕ, zero, suc, _+_, _-_, _*_, _≤_, _<_}
+use Prim.Native.Nat.{ℕ, zero, suc, _+_, _-_, _≤_, _<_}
 use mathlib.Core.Path.{_≡_, refl, sym, ap, ap₂, _∙_}
-use mathlib.Core.List.{List, map}
+use mathlib.Core.List.{List, [], _∷_, map}
 use native.Mathlib.Nat.{add-assoc, add-zero, sub-zero}
 use native.Mathlib.Numerals.{add-one}
 use native.Mathlib.Omega.{arith}
@@ -10,57 +10,47 @@ use lib.Seq.{drop-drop, getD-drop}
 use Rattle.meaning.specs.Bytes.{wordAt}
 use Rattle.meaning.specs.Limits.{planBytes}
 use Rattle.meaning.specs.Lists.{sum}
-use Rattle.meaning.specs.Sheet.{Column, entrySize, columnIn, columnsIn, columnsOf, columnAt, tableSize}
+use Rattle.meaning.specs.Sheet.{entrySize, planIn, countIn, sizeIn, entryIn, Column, columnsIn, editionOf, columnCount, tableSize, columnsOf, columnAt, bodyBegins}
 use Rattle.meaning.proofs.Tests.{by-order}
-use Rattle.table.specs.Offsets.{columnCount, entryOffset, sizeAt, sizesBefore, bodyOffset, blankColumn, columnBy}
-use Rattle.table.proofs.Lists.{word-drop, sum-next}
+use Rattle.fields.proofs.Words.{word-drop}
+use Rattle.table.specs.Offsets.{entryOffset, planOffset, sizeAt, sizesBefore, bodyOffset, blankColumn, columnBy}
+use Rattle.table.proofs.Lists.{sum-next}
 
-columns-length : (n : ℕ) (table bodies : List ℕ) → length (columnsIn n table bodies) ≡ n
+columns-length : (edition n : ℕ) (table bodies : List ℕ) → length (columnsIn edition n table bodies) ≡ n
 unfolding columnsIn
-columns-length zero table bodies = refl
-columns-length (suc n) table bodies = ap suc (columns-length n (drop entrySize table) (drop (wordAt table 20) bodies))
+columns-length edition zero table bodies = refl
+columns-length edition (suc n) table bodies =
+    ap suc (columns-length edition n (drop (entrySize edition) table) (drop (entryIn edition table .size) bodies))
 
 -- ---- a column behind others
 -- the first of n columns passed
-rest-of : (sheet : List ℕ) (n a b : ℕ) → drop 1 (columnsIn (suc n) (drop a sheet) (drop b sheet)) ≡ columnsIn n (drop (a + entrySize) sheet) (drop (b + wordAt sheet (a + 20)) sheet)
+rest-of : (edition : ℕ) (sheet : List ℕ) (n a b : ℕ)
+    → drop 1 (columnsIn edition (suc n) (drop a sheet) (drop b sheet))
+    ≡ columnsIn edition n (drop (a + entrySize edition) sheet) (drop (b + entryIn edition (drop a sheet) .size) sheet)
 unfolding columnsIn
-rest-of sheet n a b = rw (drop-drop entrySize a sheet, word-drop sheet a 20, drop-drop (wordAt sheet (a + 20)) b sheet)
+rest-of edition sheet n a b = rw (drop-drop (entrySize edition) a sheet, drop-drop (entryIn edition (drop a sheet) .size) b sheet)
 
 module _ (sheet : List ℕ) where
   pub column-count : length (columnsOf sheet) ≡ columnCount sheet
   unfolding columnsOf
-  column-count = columns-length (columnCount sheet) (drop 2 sheet) (drop (tableSize sheet) sheet)
+  column-count = columns-length (editionOf sheet) (columnCount sheet) (drop 2 sheet) (drop (tableSize sheet) sheet)
 
   -- the columns from k on
   pub columns-from : (k : ℕ) → k ≤ columnCount sheet
-      → drop k (columnsOf sheet) ≡ columnsIn (columnCount sheet - k) (drop (entryOffset k) sheet) (drop (bodyOffset sheet k) sheet)
+      → drop k (columnsOf sheet) ≡ columnsIn (editionOf sheet) (columnCount sheet - k) (drop (entryOffset k) sheet) (drop (bodyOffset sheet k) sheet)
   unfolding columnsOf sizesBefore
   columns-from zero h = rw (sub-zero (columnCount sheet), add-zero (tableSize sheet))
   columns-from (suc k) h =
       let n = columnCount sheet - suc k in
       let m : columnCount sheet - k ≡ suc n = omega arith in
-      let next : entryOffset k + entrySize ≡ entryOffset (suc k) = omega arith in
-      let field : entryOffset k + 20 ≡ 22 + entrySize * k = omega arith in
-      let body : bodyOffset sheet k + wordAt sheet (entryOffset k + 20) ≡ bodyOffset sheet (suc k) =
-      rw field (add-assoc (tableSize sheet) (sizesBefore sheet k) (sizeAt sheet k)) in
+      let next : entryOffset k + entrySize (editionOf sheet) ≡ entryOffset (suc k) = omega arith in
+      let body : bodyOffset sheet k + sizeAt sheet k ≡ bodyOffset sheet (suc k) = add-assoc (tableSize sheet) (sizesBefore sheet k) (sizeAt sheet k) in
       ap (λ (j : ℕ). drop j (columnsOf sheet)) (sym (add-one k))
       ∙ sym (drop-drop 1 k (columnsOf sheet))
-      ∙ ap (drop 1) (columns-from k (omega arith) ∙ ap (λ (j : ℕ). columnsIn j (drop (entryOffset k) sheet) (drop (bodyOffset sheet k) sheet)) m)
-      ∙ rest-of sheet n (entryOffset k) (bodyOffset sheet k)
-      ∙ ap₂ (λ (a b : ℕ). columnsIn n (drop a sheet) (drop b sheet)) next body
-
--- an entry at an offset, and column k's
-first-of : (sheet : List ℕ) (k b : ℕ) → columnIn (drop (entryOffset k) sheet) (drop b sheet) ≡ record { kind = getD sheet (2 + entrySize * k) 0; plan = take planBytes (drop (3 + entrySize * k) sheet); count = wordAt sheet (18 + entrySize * k); size = sizeAt sheet k; body = take (sizeAt sheet k) (drop b sheet) }
-first-of sheet k b =
-    let at : ℕ = entryOffset k in
-    let kind : getD (drop at sheet) 0 0 ≡ getD sheet at 0 = getD-drop at sheet 0 0 ∙ ap (λ (j : ℕ). getD sheet j 0) (add-zero at) in
-    let three : at + 1 ≡ 3 + entrySize * k = omega arith in
-    let plan : drop 1 (drop at sheet) ≡ drop (3 + entrySize * k) sheet = drop-drop 1 at sheet ∙ ap (λ (j : ℕ). drop j sheet) three in
-    let eighteen : at + 16 ≡ 18 + entrySize * k = omega arith in
-    let count : wordAt (drop at sheet) 16 ≡ wordAt sheet (18 + entrySize * k) = word-drop sheet at 16 ∙ ap (wordAt sheet) eighteen in
-    let twenty-two : at + 20 ≡ 22 + entrySize * k = omega arith in
-    let size : wordAt (drop at sheet) 20 ≡ sizeAt sheet k = word-drop sheet at 20 ∙ ap (wordAt sheet) twenty-two in
-    λ i. record { kind = kind i; plan = take planBytes (plan i); count = count i; size = size i; body = take (size i) (drop b sheet) }
+      ∙ ap (drop 1)
+      (columns-from k (omega arith) ∙ ap (λ (j : ℕ). columnsIn (editionOf sheet) j (drop (entryOffset k) sheet) (drop (bodyOffset sheet k) sheet)) m)
+      ∙ rest-of (editionOf sheet) sheet n (entryOffset k) (bodyOffset sheet k)
+      ∙ ap₂ (λ (a b : ℕ). columnsIn (editionOf sheet) n (drop a sheet) (drop b sheet)) next body
 
 module _ (sheet : List ℕ) (k : ℕ) (h : k < columnCount sheet) where
   -- the first of the columns from k on is column k
@@ -71,34 +61,62 @@ module _ (sheet : List ℕ) (k : ℕ) (h : k < columnCount sheet) where
       let m : columnCount sheet - k ≡ suc n = omega arith in
       sym (ap (λ (j : ℕ). getD (columnsOf sheet) j blankColumn) (add-zero k))
       ∙ sym (getD-drop k (columnsOf sheet) 0 blankColumn)
-      ∙ ap (λ (l : List Column). getD l 0 blankColumn) (columns-from sheet k (omega arith) ∙ ap (λ (j : ℕ). columnsIn j (drop (entryOffset k) sheet) (drop (bodyOffset sheet k) sheet)) m)
-      ∙ first-of sheet k (bodyOffset sheet k)
+      ∙ ap (λ (l : List Column). getD l 0 blankColumn)
+      (columns-from sheet k (omega arith) ∙ ap (λ (j : ℕ). columnsIn (editionOf sheet) j (drop (entryOffset k) sheet) (drop (bodyOffset sheet k) sheet)) m)
 
-  -- the column's fields, by offsets
-  pub kind-is : columnAt sheet k .kind ≡ getD sheet (2 + entrySize * k) 0
-  kind-is = ap (λ (c : Column). c .kind) column-is
+  -- the column's parts, by offsets of the sheet
+  pub kind-is : columnAt sheet k .kind ≡ getD sheet (entryOffset k) 0
+  kind-is =
+      ap (λ (c : Column). c .kind) column-is ∙ getD-drop (entryOffset k) sheet 0 0 ∙ ap (λ (j : ℕ). getD sheet j 0) (add-zero (entryOffset k))
 
-  pub plan-is : columnAt sheet k .plan ≡ take planBytes (drop (3 + entrySize * k) sheet)
-  plan-is = ap (λ (c : Column). c .plan) column-is
+  pub plan-is : columnAt sheet k .plan ≡ take planBytes (drop (planOffset k) sheet)
+  plan-is = ap (λ (c : Column). c .plan) column-is ∙ ap (take planBytes) (drop-drop planIn (entryOffset k) sheet)
 
-  pub count-is : columnAt sheet k .count ≡ wordAt sheet (18 + entrySize * k)
-  count-is = ap (λ (c : Column). c .count) column-is
+  pub count-is : columnAt sheet k .count ≡ wordAt sheet (entryOffset k + countIn)
+  count-is = ap (λ (c : Column). c .count) column-is ∙ word-drop sheet (entryOffset k) countIn
 
   pub size-is : columnAt sheet k .size ≡ sizeAt sheet k
   size-is = ap (λ (c : Column). c .size) column-is
 
+  pub size-in : sizeAt sheet k ≡ wordAt sheet (entryOffset k + sizeIn)
+  size-in = word-drop sheet (entryOffset k) sizeIn
+
   pub body-is : columnAt sheet k .body ≡ take (sizeAt sheet k) (drop (bodyOffset sheet k) sheet)
   body-is = ap (λ (c : Column). c .body) column-is
+
+-- ---- what a loop over all columns knows of the sheet: its table is whole, and it has so many columns
+pub record Counted (sheet : List ℕ) (columns : ℕ) : Type 0 where
+  pub whole : tableSize sheet ≤ length sheet
+  pub so : columns ≡ columnCount sheet
+
+module _ {sheet : List ℕ} {columns : ℕ} (counted : Counted sheet columns) {k : ℕ} where
+  pub one-of-them : k < columns → k < length (columnsOf sheet)
+  one-of-them h = omega (arith, counted .so, column-count sheet)
+
+  pub past-them : columns ≤ k → length (columnsOf sheet) ≤ k
+  past-them h = omega (arith, counted .so, column-count sheet)
+
+-- a sum is that of the first elements and that of the rest
+sum-split : {A : Type 0} (f : A → ℕ) (k : ℕ) (cs : List A) → sum (map f (take k cs)) + sum (map f (drop k cs)) ≡ sum (map f cs)
+unfolding sum
+sum-split f zero cs = omega arith
+sum-split f (suc k) [] = omega arith
+sum-split f (suc k) (c ∷ cs) = omega (arith, sum-split f k cs)
 
 -- ---- the bodies' lengths
 module _ (sheet : List ℕ) where
   -- the sizes below k, and those from k on
-  pub sizes-from : (k : ℕ) → k ≤ columnCount sheet → sum (map (λ c. c .size) (columnsOf sheet)) ≡ sizesBefore sheet k + sum (map (λ c. c .size) (drop k (columnsOf sheet)))
+  pub sizes-from : (k : ℕ) → k ≤ columnCount sheet
+      → sum (map (λ c. c .size) (columnsOf sheet)) ≡ sizesBefore sheet k + sum (map (λ c. c .size) (drop k (columnsOf sheet)))
   unfolding sizesBefore
   sizes-from zero h = omega arith
   sizes-from (suc k) h =
       let long : k < length (columnsOf sheet) = omega (arith, column-count sheet) in
       omega (arith, sizes-from k (omega arith), sum-next (λ c. c .size) (columnsOf sheet) blankColumn k long, size-is sheet k h)
+
+  -- the table's own offset of a body, from which its part is cut
+  pub begins-so : (k : ℕ) → k ≤ columnCount sheet → bodyOffset sheet k ≡ bodyBegins sheet k
+  begins-so k h = omega (arith, sum-split (λ c. c .size) k (columnsOf sheet), sizes-from k h)
 
   pub sizes-all : sum (map (λ c. c .size) (columnsOf sheet)) ≡ sizesBefore sheet (columnCount sheet)
   unfolding sum

@@ -43,9 +43,6 @@ abbrev pub PassedBelow : {A B : Type 0} → (A → Answer B) → List A → ℕ 
 PassedBelow f cs k = inTurn f 0 cs ≡ inTurn f k (drop k cs)
 
 module _ {A B : Type 0} (f : A → Answer B) (cs : List A) where
-  pub below-start : PassedBelow f cs 0
-  below-start = refl
-
   pub below-end : (k : ℕ) → PassedBelow f cs k → length cs ≤ k → inTurn f 0 cs ≡ passed
   below-end k so h = so ∙ ap (inTurn f k) (drop-of-length-le cs h)
 

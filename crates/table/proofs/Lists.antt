@@ -1,4 +1,4 @@
--- A test of all elements, asked one after the other; parts of parts. Assumes nothing.
+-- A list taken element by element: a test of all, a sum, the largest. Assumes nothing.
 use Prim.Native.Nat.{ℕ, zero, suc, _+_, _≤_, _<_, max}
 use mathlib.Core.Path.{_≡_, ap, _∙_}
 use mathlib.Core.Bool.{Bool, true, false, _&&_}
@@ -6,8 +6,7 @@ use mathlib.Core.List.{List, [], _∷_, map}
 use native.Mathlib.Numerals.{add-one}
 use native.Mathlib.Omega.{arith}
 use lib.ListN.{length, getD, drop, drop-of-length-le}
-use lib.Seq.{drop-cons, drop-drop}
-use Rattle.meaning.specs.Bytes.{wordAt}
+use lib.Seq.{drop-cons}
 use Rattle.meaning.specs.Lists.{all, sum, largest}
 use Rattle.meaning.proofs.Tests.{both-true}
 
@@ -48,8 +47,3 @@ module _ {A : Type 0} (f : A → ℕ) (cs : List A) (d : A) (k : ℕ) (h : k < l
   pub largest-next : largest (map f (drop k cs)) ≡ max (f (getD cs k d)) (largest (map f (drop (suc k) cs)))
   unfolding largest
   largest-next = ap (λ (l : List A). largest (map f l)) (drop-cons cs k d h)
-
--- a number in the bytes from an offset of a part
-pub word-drop : (bytes : List ℕ) (a b : ℕ) → wordAt (drop a bytes) b ≡ wordAt bytes (a + b)
-unfolding wordAt
-word-drop bytes a b = rw drop-drop

@@ -12,10 +12,10 @@ use Rattle.meaning.specs.Answer.{given, Verdict, passed, blamed, _then_, ask, i
 use Rattle.meaning.specs.Limits.{mostColumns, mostNumbers, mostBytes, rising, noSheet, badTable, badPlan, unfitPlan}
 use Rattle.meaning.specs.Lists.{all, sum}
 use Rattle.meaning.specs.Plan.{planOf, wellFormed, passes, judgePlan}
-use Rattle.meaning.specs.Sheet.{tableSize, columnsOf, columnAt, isSheet, tableHolds, sound}
+use Rattle.meaning.specs.Sheet.{tableSize, columnsOf, columnAt, isSheet, tableHolds, sound, columnCount}
 use Rattle.meaning.proofs.Answers.{need-given}
 use Rattle.meaning.proofs.Tests.{both-true}
-use Rattle.table.specs.Offsets.{columnCount, sizeAt, sizesBefore, bodyOffset, blankColumn}
+use Rattle.table.specs.Offsets.{sizeAt, sizesBefore, bodyOffset, blankColumn}
 use Rattle.table.specs.Rules.{entryHolds, planJudged}
 use Rattle.table.proofs.Columns.{column-count, size-is, body-is, sizes-all, sizes-rise}
 use Rattle.table.proofs.InTurn.{not-passed, each-passed}
@@ -57,17 +57,23 @@ module _ (sheet : List ℕ) where
       let (a, e₁) = both-true (leb 2 (length sheet)) _ e in
       let (b, e₂) = both-true (leb (length sheet) mostBytes) _ e₁ in
       let (c, d) = both-true (eqb (getD sheet 0 0) 1) (leb (columnCount sheet) mostColumns) e₂ in
-      record { least = leb-true 2 (length sheet) a; most = leb-true (length sheet) mostBytes b; edition = eqb-true (getD sheet 0 0) 1 c; few = leb-true (columnCount sheet) mostColumns d }
+      record {
+        least = leb-true 2 (length sheet) a;
+        most = leb-true (length sheet) mostBytes b;
+        edition = eqb-true (getD sheet 0 0) 1 c;
+        few = leb-true (columnCount sheet) mostColumns d;
+      }
 
   pub holds : tableHolds sheet ≡ true → Holds sheet
   unfolding tableHolds
   holds e =
+      let sizes = sum (map (λ c. c .size) (columnsOf sheet)) in
       let (a, e₁) = both-true (leb (tableSize sheet) (length sheet)) _ e in
       let (b, c) = both-true (all entryHolds (columnsOf sheet)) _ e₁ in
       record {
         whole = leb-true (tableSize sheet) (length sheet) a;
         entries = b;
-        filled = ap (λ (k : ℕ). tableSize sheet + k) (sym (sizes-all sheet)) ∙ eqb-true (tableSize sheet + sum (map (λ c. c .size) (columnsOf sheet))) (length sheet) c;
+        filled = ap (λ (k : ℕ). tableSize sheet + k) (sym (sizes-all sheet)) ∙ eqb-true (tableSize sheet + sizes) (length sheet) c;
       }
 
   pub parts : sound sheet ≡ passed → Parts sheet

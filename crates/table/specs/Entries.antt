@@ -1,13 +1,13 @@
 -- What a column's entry says, as the source's struct and enum.
-use Prim.Native.Nat.{ℕ, _+_, _*_, _≤_, _<_}
+use Prim.Native.Nat.{ℕ, _+_, _≤_, _<_}
 use mathlib.Core.Path.{_≡_}
 use mathlib.Core.List.{List}
 use lib.ListN.{length, take, drop}
 use Rattle.meaning.specs.Answer.{given, refused, passed}
 use Rattle.meaning.specs.Limits.{planBytes}
 use Rattle.meaning.specs.Operations.{column}
-use Rattle.meaning.specs.Sheet.{entrySize, columnAt, sound}
-use Rattle.table.specs.Offsets.{columnCount, bodyOffset}
+use Rattle.meaning.specs.Sheet.{bodyBegins, columnAt, sound, columnCount}
+use Rattle.table.specs.Offsets.{planOffset}
 use Rattle.table.specs.declared.Entry.{Entry}
 use Rattle.table.specs.declared.Column.{Column}
 use Rattle.table.specs.declared.Column.the-variants.{At, Refused}
@@ -26,8 +26,8 @@ pub record EntryIs (sheet : List ℕ) (k : ℕ) (e : Entry) : Type 0 where
   pub body : take (e .size) (drop (e .body .byte) sheet) ≡ columnAt sheet k .body
   pub planFits : e .plan .byte + planBytes ≤ length sheet
   pub bodyFits : e .body .byte + e .size ≤ length sheet
-  pub planBegins : e .plan .byte ≡ 3 + entrySize * k
-  pub bodyBegins : e .body .byte ≡ bodyOffset sheet k
+  pub planBegins : e .plan .byte ≡ planOffset k
+  pub begins : e .body .byte ≡ bodyBegins sheet k
 
 -- what an accepted column says
 pub record Opened (sheet : List ℕ) (k : ℕ) (e : Entry) : Type 0 where

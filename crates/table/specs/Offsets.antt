@@ -1,22 +1,23 @@
 -- Where a column's entry and body stand in a sheet, by the column's number.
 use Prim.Native.Nat.{ℕ, zero, suc, _+_, _*_, _≤_, _<_}
 use mathlib.Core.List.{List, []}
-use lib.ListN.{length, getD, take, drop}
-use Rattle.meaning.specs.Bytes.{wordAt}
-use Rattle.meaning.specs.Limits.{planBytes}
-use Rattle.meaning.specs.Sheet.{Column, entrySize, tableSize}
-
--- the number of columns
-abbrev pub columnCount : List ℕ → ℕ
-columnCount sheet = getD sheet 1 0
+use lib.ListN.{length, drop}
+use Rattle.meaning.specs.Sheet.{Entry, entrySize, planIn, entryIn, Column, columnIn, editionOf, columnCount, tableSize}
 
 -- column k's entry begins here; that of the column past the last is where the table ends
 abbrev pub entryOffset : ℕ → ℕ
-entryOffset k = 2 + entrySize * k
+entryOffset k = 2 + entrySize 1 * k
 
--- the body length in column k's entry
+-- its plan begins here
+abbrev pub planOffset : ℕ → ℕ
+planOffset k = entryOffset k + planIn
+
+-- column k's entry, and the body length in it
+abbrev pub entryAt : List ℕ → ℕ → Entry
+entryAt sheet k = entryIn (editionOf sheet) (drop (entryOffset k) sheet)
+
 abbrev pub sizeAt : List ℕ → ℕ → ℕ
-sizeAt sheet k = wordAt sheet (22 + entrySize * k)
+sizeAt sheet k = entryAt sheet k .size
 
 -- the bodies before column k's, together
 unfoldable pub sizesBefore : List ℕ → ℕ → ℕ
@@ -33,14 +34,7 @@ blankColumn = record { kind = 0; plan = []; count = 0; size = 0; body = [] }
 
 -- column k by offsets of the sheet
 abbrev pub columnBy : List ℕ → ℕ → Column
-columnBy sheet k =
-    record {
-      kind = getD sheet (2 + entrySize * k) 0;
-      plan = take planBytes (drop (3 + entrySize * k) sheet);
-      count = wordAt sheet (18 + entrySize * k);
-      size = sizeAt sheet k;
-      body = take (sizeAt sheet k) (drop (bodyOffset sheet k) sheet);
-    }
+columnBy sheet k = columnIn (editionOf sheet) (drop (entryOffset k) sheet) (drop (bodyOffset sheet k) sheet)
 
 -- the table is whole, and has an entry k
 pub record Within (sheet : List ℕ) (k : ℕ) : Type 0 where

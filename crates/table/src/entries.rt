@@ -7,22 +7,22 @@ use meaning::MOST_NUMBERS;
 use meaning::Offset;
 use meaning::RISING;
 ghost use mathlib.Core.Path.{_≡_};
-ghost use Prim.Native.Nat.{_+_, _*_, _<_, _≤_, _^_};
+ghost use Prim.Native.Nat.{_<_, _≤_, _^_};
 ghost use lib.ListN.{length};
 ghost use Rattle.meaning.specs.Limits.{numberLimit};
 ghost use Rattle.meaning.specs.Lists.{all};
-ghost use Rattle.meaning.specs.Sheet.{entrySize, tableSize, columnsOf, columnAt};
-ghost use Rattle.table.specs.Offsets.{columnCount, entryOffset, bodyOffset, Within};
+ghost use Rattle.meaning.specs.Sheet.{tableSize, columnsOf, columnAt, columnCount};
+ghost use Rattle.table.specs.Offsets.{entryOffset, planOffset, bodyOffset, Within};
 ghost use Rattle.table.specs.Rules.{entryHolds};
 
-// Where its plan stands in an entry.
-const PLAN_IN: usize = 1;
+// Where a column's plan stands in its entry: where the meaning's `planIn` says (specs/Sheet.antt of the crate `meaning`).
+pub const PLAN_IN: usize = 1;
 
-// Where its count stands.
-const COUNT_IN: usize = 16;
+// Where its count stands: where `countIn` says.
+pub const COUNT_IN: usize = 16;
 
-// Where its body's length stands.
-const SIZE_IN: usize = 20;
+// Where its body's length stands: where `sizeIn` says.
+pub const SIZE_IN: usize = 20;
 
 // The number of columns.
 pub fn column_count(sheet: &[u8]) -> usize
@@ -44,8 +44,8 @@ pub fn entry_start(column: usize) -> Offset
 
 // Where a column's plan begins.
 pub fn plan_start(column: usize) -> Offset
-    requires { ⌜ 3 + entrySize * column < 2 ^ 64 ⌝ }
-    ensures { λ r. ⌜ r .byte ≡ 3 + entrySize * column ⌝ }
+    requires { ⌜ planOffset column < 2 ^ 64 ⌝ }
+    ensures { λ r. ⌜ r .byte ≡ planOffset column ⌝ }
 {
     let start = entry_start(column);
     let byte = start.byte + PLAN_IN;
@@ -68,7 +68,8 @@ pub fn count_at(sheet: &[u8], column: usize) -> usize
     ensures { λ r. ⌜ r ≡ columnAt (now (sheet .entry)) column .count ⌝ }
 {
     let start = entry_start(column);
-    word_at(sheet, start.byte + COUNT_IN) as usize
+    let byte = start.byte + COUNT_IN;
+    word_at(sheet, Offset { byte }) as usize
 }
 
 // The length of a column's body.
@@ -77,7 +78,8 @@ pub fn size_at(sheet: &[u8], column: usize) -> usize
     ensures { λ r. ⌜ (r ≡ columnAt (now (sheet .entry)) column .size) × (r < numberLimit) ⌝ }
 {
     let start = entry_start(column);
-    word_at(sheet, start.byte + SIZE_IN) as usize
+    let byte = start.byte + SIZE_IN;
+    word_at(sheet, Offset { byte }) as usize
 }
 
 // Where a column's body begins: after the table and the bodies before it. That of the column past the last is where the bodies end.

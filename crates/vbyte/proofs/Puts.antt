@@ -21,15 +21,15 @@ unfolding sevens
 sevens-last zero x h = refl
 sevens-last (suc k) x h = rw (lt-ltb x 128 h)
 
-pub put-last : (k x : ℕ) {at next : ℕ} {out out′ : List ℕ} → x < 128 → next ≡ at + 1 → out′ ≡ set out at (x % 256)
-    → Wrote (sevens k x) at out out′ (record { byte = next })
+pub put-last : (k x : ℕ) {at : ℕ} {r : Offset} {out out′ : List ℕ} → x < 128 → r .byte ≡ at + 1 → out′ ≡ set out at (x % 256)
+    → Wrote (sevens k x) at out out′ r
 put-last k x h after e =
     let m : x % 256 ≡ x = omega arith in
     rw (sevens-last k x h) (record { ends = after; here = e ∙ rw m })
 
 -- a byte that others follow, and then the others
-pub put-more : (k x : ℕ) {at next r : ℕ} {out out′ out″ : List ℕ} → 128 ≤ x → next ≡ at + 1 → out′ ≡ set out at (x % 128 + 128)
-    → Wrote (sevens k (x / 128)) next out′ out″ (record { byte = r }) → Wrote (sevens (suc k) x) at out out″ (record { byte = r })
+pub put-more : (k x : ℕ) {at next : ℕ} {r : Offset} {out out′ out″ : List ℕ} → 128 ≤ x → next ≡ at + 1 → out′ ≡ set out at (x % 128 + 128)
+    → Wrote (sevens k (x / 128)) next out′ out″ r → Wrote (sevens (suc k) x) at out out″ r
 unfolding sevens
 put-more k x {at} {next} h after e p =
     let n : next ≡ suc at = after ∙ add-one at in
@@ -64,32 +64,32 @@ module _ (f : ℕ → List ℕ) where
   joined-next xs from i h = rw (part-next xs from i h, joined-append (part xs from i), joined-one)
 
 -- i numbers have been written
-pub record Written (list : List ℕ) (from n at : ℕ) (out₀ out : List ℕ) (to i : ℕ) : Type 0 where
+pub record Written (list : List ℕ) (from n at : ℕ) (out₀ out : List ℕ) (to : Offset) (i : ℕ) : Type 0 where
   pub source : Source list from n at
   pub many : i ≤ n
-  pub so : Wrote (joined vbyte (part list from i)) at out₀ out (record { byte = to })
+  pub so : Wrote (joined vbyte (part list from i)) at out₀ out to
 
-pub write-start : {list : List ℕ} {from n at : ℕ} (out : List ℕ) → Source list from n at → Written list from n at out out at 0
+pub write-start : {list : List ℕ} {from n : ℕ} {at : Offset} (out : List ℕ) → Source list from n (at .byte) → Written list from n (at .byte) out out at 0
 unfolding joined
-write-start {at} out source = record { source = source; many = omega arith; so = record { ends = sym (add-zero at); here = refl } }
+write-start {at} out source = record { source = source; many = omega arith; so = record { ends = sym (add-zero (at .byte)); here = refl } }
 
-module _ {list : List ℕ} {from n at : ℕ} {out₀ out : List ℕ} {to i : ℕ} (w : Written list from n at out₀ out to i) where
+module _ {list : List ℕ} {from n at : ℕ} {out₀ out : List ℕ} {to : Offset} {i : ℕ} (w : Written list from n at out₀ out to i) where
   pub write-long : length out ≡ length out₀
   write-long = ap length (w .so .here) ∙ length-sets out₀ at (joined vbyte (part list from i))
 
   -- five bytes a number at most, so that no offset passes the largest number
-  pub write-room : i < n → to + 5 < 2 ^ 63
+  pub write-room : i < n → to .byte + 5 < 2 ^ 63
   write-room h =
       let l = length-take-le i (drop from list) (simp length-drop (omega (arith, w .source .inside))) in
       omega (arith, w .so .ends, most (part list from i), w .source .short)
 
-  pub write-turn : i < n → {out′ : List ℕ} {r : ℕ} → Wrote (vbyte (getD list (from + i) 0)) to out out′ (record { byte = r })
+  pub write-turn : i < n → {out′ : List ℕ} {r : Offset} → Wrote (vbyte (getD list (from + i) 0)) (to .byte) out out′ r
       → Written list from n at out₀ out′ r (i + 1)
   write-turn h p =
       let e = joined-next vbyte list from i (omega (arith, w .source .inside)) in
       record { source = w .source; many = omega arith; so = rw e (wrote-both (w .so) p) }
 
-  pub write-end : n ≤ i → Wrote (joined vbyte (part list from n)) at out₀ out (record { byte = to })
+  pub write-end : n ≤ i → Wrote (joined vbyte (part list from n)) at out₀ out to
   write-end h =
       let e : i ≡ n = omega (arith, w .many) in
       rw (← e) (w .so)

@@ -14,6 +14,7 @@ use Rattle.meaning.specs.Answer.{Answer, given, refused, bind, need}
 use Rattle.meaning.specs.Limits.{fault}
 use Rattle.meaning.specs.Positions.{atByte}
 use Rattle.meaning.specs.VByte.{laterIn, vbyteIn, unitVByte}
+use Rattle.meaning.specs.declared.Offset.{Offset}
 use Rattle.meaning.specs.declared.Position.{Position}
 use Rattle.meaning.proofs.Tests.{by-test}
 use Rattle.vbyte.specs.Numbers.{numberSays, numberAt, laterAt}
@@ -99,7 +100,7 @@ module _ (body : List ℕ) (left : ℕ) (p : Position) (r : Number) (told : numb
   unfolding unitVByte numberAt
   unit-told = rw told (unit-is (vbyteIn (drop (p .head .byte) body)) (p .head .byte))
 
-  pub unit-given : {x next : ℕ} → r ≡ number.Read x next → unitVByte body left p ≡ given (atByte next, x ∷ [])
+  pub unit-given : {x : ℕ} {next : Offset} → r ≡ number.Read x next → unitVByte body left p ≡ given (atByte (next .byte), x ∷ [])
   unit-given e = rw e at unit-told
 
   pub unit-refused : {z : ℕ} → r ≡ number.Refused z → unitVByte body left p ≡ refused z

@@ -11,6 +11,7 @@ use Rattle.meaning.specs.Codes.{codeVByte}
 use Rattle.meaning.specs.Places.{part, Took, Ends}
 use Rattle.meaning.specs.Positions.{atByte}
 use Rattle.meaning.specs.VByte.{unitVByte}
+use Rattle.meaning.specs.declared.Offset.{Offset}
 use Rattle.meaning.specs.declared.Position.{Position}
 use Rattle.meaning.specs.declared.Taken.{Taken}
 use Rattle.meaning.proofs.Bounds.{below-nil, below-cons, below-append}
@@ -84,7 +85,7 @@ module _ {body : List ℕ} {left : ℕ} {p : Position} {w₀ : List ℕ} {from :
   take-start = takes-start codeVByte body left p w₀ from (atByte (p .head .byte)) (spare-always []) (λ k. refl)
 
   take-turn : {w : List ℕ} {i to : ℕ} → TakesTo body left p w₀ from w i to → i < left → (r : Number) → numberSays r ≡ numberAt body to
-      → {x next : ℕ} → r ≡ number.Read x next → TakesTo body left p w₀ from (set w (from + i) x) (i + 1) next
+      → {x : ℕ} {next : Offset} → r ≡ number.Read x next → TakesTo body left p w₀ from (set w (from + i) x) (i + 1) (next .byte)
   take-turn {w} {i} {to} t h r told {x} e =
       takes-next codeVByte body left p w₀ from w i i 0 (atByte to) t refl _ _ h (unit-given body (left - i) (atByte to) r told e) (omega arith)
       (spare-always (x ∷ [])) refl
@@ -101,7 +102,7 @@ module _ {body : List ℕ} {left : ℕ} {p : Position} {w₀ : List ℕ} {from :
         let stored : set (sets w₀ from (part body at k)) (from + k) x ≡ sets w₀ from (part body at (k + 1)) =
         rw (part-next body at k inside) (rw (part-long body at k (omega (arith, ones .there))) at (sets-snoc (part body at k) x w₀ from)) in
         let next : at + k + 1 ≡ at + suc k = omega arith in
-        rw (stored, next, add-one k) at (take-turn t (omega arith) (number.Read x (at + k + 1)) read refl)
+        rw (stored, next, add-one k) at (take-turn t (omega arith) (number.Read x (record { byte = at + k + 1 })) read refl)
 
     upto : (k : ℕ) → k ≤ n → TakesOnes body left p w₀ from k
     upto zero l = rw add-zero take-start
@@ -120,8 +121,8 @@ pub record Onward (body : List ℕ) (left : ℕ) (p : Position) (from most : ℕ
 
 module _ {body : List ℕ} {left : ℕ} {p : Position} {from most : ℕ} {w₁ : List ℕ} {i₁ to₁ : ℕ} {w : List ℕ} {i to : ℕ}
     (s : Onward body left p from most w₁ i₁ to₁ w i to) where
-  pub onward-turn : i < most → (r : Number) → numberSays r ≡ numberAt body to → {x next : ℕ} → r ≡ number.Read x next
-      → Onward body left p from most w₁ i₁ to₁ (set w (from + i) x) (i + 1) next
+  pub onward-turn : i < most → (r : Number) → numberSays r ≡ numberAt body to → {x : ℕ} {next : Offset} → r ≡ number.Read x next
+      → Onward body left p from most w₁ i₁ to₁ (set w (from + i) x) (i + 1) (next .byte)
   onward-turn h r told e =
       record {
         many = omega arith;

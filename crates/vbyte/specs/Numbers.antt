@@ -11,7 +11,7 @@ use Rattle.vbyte.specs.declared.Number.{Number}
 use Rattle.vbyte.specs.declared.Number.the-variants as number
 
 abbrev pub numberSays : Number → Answer (ℕ × ℕ)
-numberSays (number.Read x next) = given (x, next)
+numberSays (number.Read x next) = given (x, next .byte)
 numberSays (number.Refused e) = refused e
 
 unfoldable pub numberAt : List ℕ → ℕ → Answer (ℕ × ℕ)

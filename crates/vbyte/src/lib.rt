@@ -1,9 +1,9 @@
 // Code 1, VByte: 7 bits a byte, lowest first, top bit 1 when more follows.
+use leaves::from_byte;
 use leaves::lesser;
 use leaves::put;
 use leaves::taken;
 use leaves::wide;
-use meaning::Bit;
 use meaning::FAULT;
 use meaning::Offset;
 use meaning::Place;
@@ -20,53 +20,58 @@ ghost use Rattle.meaning.specs.Answer.{given, need};
 ghost use Rattle.meaning.specs.Codes.{codeVByte};
 ghost use Rattle.meaning.specs.Limits.{mostBytes, fault};
 ghost use Rattle.meaning.specs.Places.{Source, Target, Wrote, Took, UnitIs, part};
-ghost use Rattle.meaning.specs.Positions.{atByte};
 ghost use Rattle.meaning.specs.VByte.{sevens, vbyte};
 ghost use Rattle.vbyte.specs.Numbers.{numberSays, numberAt, laterAt, Ones};
 
 // One number read: its value and the offset after it, or the refusal.
 enum Number {
-    Read(u32, usize),
+    Read(u32, Offset),
     Refused(u8),
 }
 
 // Puts a number's third byte and those after it, given its bits above the lowest 14; answers the offset after them.
-fn put_from_third(out: &mut [u8], at: usize, above14: u32) -> usize
-    requires { ⌜ (above14 < 2 ^ 18) × (at + 3 < 2 ^ 63) ⌝ }
-    ensures { λ r. ⌜ Wrote (sevens 2 above14) at (now (out .entry)) (now (out .exit)) (record { byte = r }) ⌝ }
+fn put_from_third(out: &mut [u8], at: Offset, above14: u32) -> Offset
+    requires { ⌜ (above14 < 2 ^ 18) × (at .byte + 3 < 2 ^ 63) ⌝ }
+    ensures { λ r. ⌜ Wrote (sevens 2 above14) (at .byte) (now (out .entry)) (now (out .exit)) r ⌝ }
 {
+    let start = at.byte;
+    let second = Offset { byte: start + 1 };
     if above14 < 128 {
         put(out, at, (above14 % 256) as u8);
-        return at + 1;
+        return second;
     }
     put(out, at, (above14 % 128 + 128) as u8);
     let above21 = above14 / 128;
+    let third = Offset { byte: start + 2 };
     if above21 < 128 {
-        put(out, at + 1, (above21 % 256) as u8);
-        return at + 2;
+        put(out, second, (above21 % 256) as u8);
+        return third;
     }
-    put(out, at + 1, (above21 % 128 + 128) as u8);
-    put(out, at + 2, (above21 / 128 % 256) as u8);
-    at + 3
+    put(out, second, (above21 % 128 + 128) as u8);
+    put(out, third, (above21 / 128 % 256) as u8);
+    Offset { byte: start + 3 }
 }
 
 // Puts one number, and answers the offset after it.
-fn put_number(out: &mut [u8], at: usize, x: u32) -> usize
-    requires { ⌜ at + 5 < 2 ^ 63 ⌝ }
-    ensures { λ r. ⌜ Wrote (vbyte x) at (now (out .entry)) (now (out .exit)) (record { byte = r }) ⌝ }
+fn put_number(out: &mut [u8], at: Offset, x: u32) -> Offset
+    requires { ⌜ at .byte + 5 < 2 ^ 63 ⌝ }
+    ensures { λ r. ⌜ Wrote (vbyte x) (at .byte) (now (out .entry)) (now (out .exit)) r ⌝ }
 {
+    let start = at.byte;
+    let second = Offset { byte: start + 1 };
     if x < 128 {
         put(out, at, (x % 256) as u8);
-        return at + 1;
+        return second;
     }
     put(out, at, (x % 128 + 128) as u8);
     let above7 = x / 128;
+    let third = Offset { byte: start + 2 };
     if above7 < 128 {
-        put(out, at + 1, (above7 % 256) as u8);
-        return at + 2;
+        put(out, second, (above7 % 256) as u8);
+        return third;
     }
-    put(out, at + 1, (above7 % 128 + 128) as u8);
-    put_from_third(out, at + 2, above7 / 128)
+    put(out, second, (above7 % 128 + 128) as u8);
+    put_from_third(out, third, above7 / 128)
 }
 
 // Writes n numbers of a list, from a place on, to an output, from an offset on; answers the offset after them.
@@ -75,18 +80,18 @@ pub fn write(list: &[u32], from: Place, n: usize, out: &mut [u8], at: Offset) ->
     ensures { λ r. ⌜ Wrote (codeVByte .write (part (now (list .entry)) (from .number) n)) (at .byte) (now (out .entry)) (now (out .exit)) r ⌝ }
 {
     let first = from.number;
-    let mut to = at.byte;
+    let mut to = at;
     let mut i: usize = 0;
     while i < n {
         to = put_number(out, to, list[first + i]);
         i += 1;
     }
-    Offset { byte: to }
+    to
 }
 
 // A number x that ends with a byte b, not its first; b is not 0, or fewer bytes would hold x.
-fn last(b: u32, x: u32, next: usize) -> Number
-    ensures { λ r. ⌜ numberSays r ≡ need (not (eqb b 0)) fault (given (x, next)) ⌝ }
+fn last(b: u32, x: u32, next: Offset) -> Number
+    ensures { λ r. ⌜ numberSays r ≡ need (not (eqb b 0)) fault (given (x, next .byte)) ⌝ }
 {
     if b == 0 {
         return Number::Refused(FAULT);
@@ -95,77 +100,70 @@ fn last(b: u32, x: u32, next: usize) -> Number
 }
 
 // The number whose first three bytes make `low` and whose fourth stands at an offset.
-fn from_fourth(body: &[u8], at: usize, low: u32) -> Number
+fn from_fourth(body: &[u8], at: Offset, low: u32) -> Number
     requires { ⌜ low < 2 ^ 21 ⌝ }
-    ensures { λ r. ⌜ numberSays r ≡ laterAt 1 (2 ^ 21) low (now (body .entry)) at ⌝ }
+    ensures { λ r. ⌜ numberSays r ≡ laterAt 1 (2 ^ 21) low (now (body .entry)) (at .byte) ⌝ }
 {
     let end = body.len();
-    if end <= at {
+    let here = at.byte;
+    if end <= here {
         return Number::Refused(FAULT);
     }
-    let fourth = wide(body[at]);
+    let fourth = wide(body[here]);
     if fourth < 128 {
-        return last(fourth, low + 2097152 * fourth, at + 1);
+        return last(fourth, low + 2097152 * fourth, Offset { byte: here + 1 });
     }
     let low28 = low + 2097152 * (fourth - 128);
-    if end <= at + 1 {
+    if end <= here + 1 {
         return Number::Refused(FAULT);
     }
-    let fifth = wide(body[at + 1]);
+    let fifth = wide(body[here + 1]);
     if 15 < fifth {
         return Number::Refused(FAULT);
     }
-    last(fifth, low28 + 268435456 * fifth, at + 2)
+    last(fifth, low28 + 268435456 * fifth, Offset { byte: here + 2 })
 }
 
 // The number whose first byte makes `low` and whose second stands at an offset.
-fn from_second(body: &[u8], at: usize, low: u32) -> Number
+fn from_second(body: &[u8], at: Offset, low: u32) -> Number
     requires { ⌜ low < 2 ^ 7 ⌝ }
-    ensures { λ r. ⌜ numberSays r ≡ laterAt 3 (2 ^ 7) low (now (body .entry)) at ⌝ }
+    ensures { λ r. ⌜ numberSays r ≡ laterAt 3 (2 ^ 7) low (now (body .entry)) (at .byte) ⌝ }
 {
     let end = body.len();
-    if end <= at {
+    let here = at.byte;
+    if end <= here {
         return Number::Refused(FAULT);
     }
-    let second = wide(body[at]);
+    let second = wide(body[here]);
     if second < 128 {
-        return last(second, low + 128 * second, at + 1);
+        return last(second, low + 128 * second, Offset { byte: here + 1 });
     }
     let low14 = low + 128 * (second - 128);
-    if end <= at + 1 {
+    if end <= here + 1 {
         return Number::Refused(FAULT);
     }
-    let third = wide(body[at + 1]);
+    let third = wide(body[here + 1]);
+    let next = Offset { byte: here + 2 };
     if third < 128 {
-        return last(third, low14 + 16384 * third, at + 2);
+        return last(third, low14 + 16384 * third, next);
     }
-    from_fourth(body, at + 2, low14 + 16384 * (third - 128))
+    from_fourth(body, next, low14 + 16384 * (third - 128))
 }
 
 // The number at an offset; most take one byte.
-fn number_at(body: &[u8], at: usize) -> Number
-    ensures { λ r. ⌜ numberSays r ≡ numberAt (now (body .entry)) at ⌝ }
+fn number_at(body: &[u8], at: Offset) -> Number
+    ensures { λ r. ⌜ numberSays r ≡ numberAt (now (body .entry)) (at .byte) ⌝ }
 {
-    if body.len() <= at {
+    let here = at.byte;
+    if body.len() <= here {
         return Number::Refused(FAULT);
     }
-    let next = at + 1;
-    let first = wide(body[at]);
+    let next = Offset { byte: here + 1 };
+    let first = wide(body[here]);
     if first < 128 {
         return Number::Read(first, next);
     }
     from_second(body, next, first - 128)
-}
-
-// A position that is an offset alone.
-fn from_byte(byte: usize) -> Position
-    ensures { λ r. ⌜ r ≡ atByte byte ⌝ }
-{
-    Position {
-        head: Offset { byte },
-        tail: Offset { byte: 0 },
-        bit: Bit { index: 0 },
-    }
 }
 
 // Reads the unit at a position: one number.
@@ -173,9 +171,8 @@ pub fn unit(body: &[u8], left: usize, at: Position) -> UnitRead
     requires { ⌜ length (now body) ≤ mostBytes ⌝ }
     ensures { λ r. ⌜ UnitIs (codeVByte .unit (now (body .entry)) left at) r ⌝ }
 {
-    let head = at.head;
     let mut numbers = [0u32; 8];
-    let r = number_at(body, head.byte);
+    let r = number_at(body, at.head);
     match r {
         Number::Read(x, next) => {
             numbers[0] = x;
@@ -264,7 +261,9 @@ pub fn take(
     let first = from.number;
     let most = lesser(left, room);
     let mut i = take_ones(body, head, work, from, most);
-    let mut to = head.byte + i;
+    let mut to = Offset {
+        byte: head.byte + i,
+    };
     while i < most {
         let r = number_at(body, to);
         let Number::Read(x, next) = r else {

@@ -32,7 +32,8 @@ plan-next plans k =
     ap (take planBytes) (drop-drop (planBytes * k) planBytes plans ∙ ap (λ (j : ℕ). drop j plans) e)
 
 numbers-next : (counts numbers : List ℕ) (k : ℕ)
-    → take (getD (drop 1 counts) k 0) (drop (listStart (drop 1 counts) k) (drop (getD counts 0 0) numbers)) ≡ take (getD counts (suc k) 0) (drop (listStart counts (suc k)) numbers)
+    → take (getD (drop 1 counts) k 0) (drop (listStart (drop 1 counts) k) (drop (getD counts 0 0) numbers))
+    ≡ take (getD counts (suc k) 0) (drop (listStart counts (suc k)) numbers)
 unfolding sum
 numbers-next [] numbers k = refl
 numbers-next (c ∷ counts) numbers k = ap (take (getD counts k 0)) (drop-drop (sum (take k counts)) c numbers)
@@ -45,4 +46,5 @@ column-is [] plans counts numbers k h = absurd (omega arith)
 column-is (x ∷ kinds) plans counts numbers zero h = refl
 column-is (x ∷ kinds) plans counts numbers (suc k) h =
     column-is kinds (drop planBytes plans) (drop 1 counts) (drop (getD counts 0 0) numbers) k (omega arith)
-    ∙ ap₂ (λ (p ns : List ℕ). record { kind = getD kinds k 0; plan = planUsed (getD kinds k 0) p; numbers = ns }) (plan-next plans k) (numbers-next counts numbers k)
+    ∙ ap₂ (λ (p ns : List ℕ). record { kind = getD kinds k 0; plan = planUsed (getD kinds k 0) p; numbers = ns })
+    (plan-next plans k) (numbers-next counts numbers k)

@@ -8,14 +8,16 @@ use lib.Dec.{eqb}
 use lib.ListN.{length, take, drop, set, replicate, length-append}
 use lib.Seq.{sets, take-all}
 use borrow.Author.Tests.{eq-eqb}
-use Rattle.meaning.specs.Bytes.{bytesOf, word}
+use Rattle.meaning.specs.Bytes.{word}
 use Rattle.meaning.specs.Limits.{planBytes, rising}
 use Rattle.meaning.specs.Lists.{all}
 use Rattle.meaning.specs.Places.{part}
 use Rattle.meaning.specs.Plan.{defaultPlan, planUsed}
-use Rattle.meaning.specs.Sheet.{Listed, entryBytes, bodyOf}
+use Rattle.meaning.specs.Sheet.{Entry, planIn, countIn, sizeIn, entryBytes}
 use Rattle.meaning.proofs.Stores.{sets-append}
-use Rattle.writer.proofs.Copies.{part-long, copy-whole}
+use Rattle.fields.proofs.Words.{word-length}
+use Rattle.stages.proofs.Parts.{part-length}
+use Rattle.stages.proofs.Copies.{copy-whole}
 
 -- ---- 15 zeros mean the default
 module _ (kind : ℕ) (bytes : List ℕ) where
@@ -48,41 +50,36 @@ module _ (kind : ℕ) (bytes : List ℕ) where
       go false = l
 
 -- ---- an entry
-pub word-size : (x : ℕ) → length (word x) ≡ 4
-unfolding word bytesOf
-word-size x = refl
-
-pub entry-long : (l : Listed) → length (l .plan) ≡ planBytes → length (entryBytes l) ≡ 24
-unfolding entryBytes
-entry-long l e =
-    let a = length-append (l .plan) (word (length (l .numbers)) ++ word (length (bodyOf l))) in
-    let b = length-append (word (length (l .numbers))) (word (length (bodyOf l))) in
-    omega (arith, word-size (length (l .numbers)), word-size (length (bodyOf l)))
-
 -- an entry put part by part
-pub entry-put : (o : List ℕ) (at kind : ℕ) (plan : List ℕ) (count size : ℕ) → length plan ≡ planBytes
-    → sets (sets (sets (set o at kind) (at + 1) plan) (at + 16) (word count)) (at + 20) (word size) ≡ sets o at (kind ∷ (plan ++ (word count ++ word size)))
-entry-put o at kind plan count size l =
-    let b : at + 16 ≡ at + 1 + length plan = omega arith in
-    let c : at + 20 ≡ at + 1 + length (plan ++ word count) = omega (arith, length-append plan (word count), word-size count) in
-    let one : at + 1 ≡ suc at = omega arith in
-    ap (λ (o₂ : List ℕ). sets o₂ (at + 20) (word size))
-    (ap (λ (k : ℕ). sets (sets (set o at kind) (at + 1) plan) k (word count)) b ∙ sets-append plan (word count) (set o at kind) (at + 1))
-    ∙ ap (λ (k : ℕ). sets (sets (set o at kind) (at + 1) (plan ++ word count)) k (word size)) c
-    ∙ sets-append (plan ++ word count) (word size) (set o at kind) (at + 1)
-    ∙ ap (sets (set o at kind) (at + 1)) (append-assoc plan (word count) (word size))
+entry-put : (edition : ℕ) (e : Entry) (o : List ℕ) (at : ℕ) → length (e .plan) ≡ planBytes
+    → sets (sets (sets (set o at (e .kind)) (at + planIn) (e .plan)) (at + countIn) (word (e .count))) (at + sizeIn) (word (e .size))
+    ≡ sets o at (entryBytes edition e)
+unfolding entryBytes
+entry-put edition e o at l =
+    let kind = e .kind in
+    let plan = e .plan in
+    let count = e .count in
+    let size = e .size in
+    let b : at + countIn ≡ at + planIn + length plan = omega arith in
+    let c : at + sizeIn ≡ at + planIn + length (plan ++ word count) = omega (arith, length-append plan (word count), word-length count) in
+    let one : at + planIn ≡ suc at = omega arith in
+    ap (λ (o₂ : List ℕ). sets o₂ (at + sizeIn) (word size))
+    (ap (λ (k : ℕ). sets (sets (set o at kind) (at + planIn) plan) k (word count)) b ∙ sets-append plan (word count) (set o at kind) (at + planIn))
+    ∙ ap (λ (k : ℕ). sets (sets (set o at kind) (at + planIn) (plan ++ word count)) k (word size)) c
+    ∙ sets-append (plan ++ word count) (word size) (set o at kind) (at + planIn)
+    ∙ ap (sets (set o at kind) (at + planIn)) (append-assoc plan (word count) (word size))
     ∙ ap (λ (k : ℕ). sets (set o at kind) k (plan ++ (word count ++ word size))) one
 
 -- the same from what each part's function says
-pub entry-laid : (o o₁ o₂ o₃ o₄ : List ℕ) (at kind : ℕ) (plan : List ℕ) (count size : ℕ) → length plan ≡ planBytes
-    → o₁ ≡ set o at kind → o₂ ≡ sets o₁ (at + 1) (part plan 0 planBytes) → o₃ ≡ sets o₂ (at + 16) (word count) → o₄ ≡ sets o₃ (at + 20) (word size)
-    → o₄ ≡ sets o at (kind ∷ (plan ++ (word count ++ word size)))
-entry-laid o o₁ o₂ o₃ o₄ at kind plan count size l e₁ e₂ e₃ e₄ =
-    let whole : part plan 0 planBytes ≡ plan = take-all planBytes plan (omega arith) in
+pub entry-laid : (edition : ℕ) (e : Entry) (o o₁ o₂ o₃ o₄ : List ℕ) (at : ℕ) → length (e .plan) ≡ planBytes
+    → o₁ ≡ set o at (e .kind) → o₂ ≡ sets o₁ (at + planIn) (part (e .plan) 0 planBytes)
+    → o₃ ≡ sets o₂ (at + countIn) (word (e .count)) → o₄ ≡ sets o₃ (at + sizeIn) (word (e .size)) → o₄ ≡ sets o at (entryBytes edition e)
+entry-laid edition e o o₁ o₂ o₃ o₄ at l e₁ e₂ e₃ e₄ =
+    let whole : part (e .plan) 0 planBytes ≡ e .plan = take-all planBytes (e .plan) (omega arith) in
     e₄
-    ∙ ap (λ (x : List ℕ). sets x (at + 20) (word size))
-    (e₃ ∙ ap (λ (x : List ℕ). sets x (at + 16) (word count)) (e₂ ∙ ap₂ (λ (x p : List ℕ). sets x (at + 1) p) e₁ whole))
-    ∙ entry-put o at kind plan count size l
+    ∙ ap (λ (x : List ℕ). sets x (at + sizeIn) (word (e .size)))
+    (e₃ ∙ ap (λ (x : List ℕ). sets x (at + countIn) (word (e .count))) (e₂ ∙ ap₂ (λ (x p : List ℕ). sets x (at + planIn) p) e₁ whole))
+    ∙ entry-put edition e o at l
 
 -- ---- the plan used, from a part of the plans
 module _ (kind : ℕ) (plans : List ℕ) (from : ℕ) (fits : from + planBytes ≤ length plans)
@@ -91,8 +88,10 @@ module _ (kind : ℕ) (plans : List ℕ) (from : ℕ) (fits : from + planBytes �
   blank-is = let e : from + planBytes - from ≡ planBytes = omega arith in is ∙ ap (λ (k : ℕ). all (eqb 0) (take k (drop from plans))) e
 
   pub default-used : t ≡ true → (r : List ℕ) → r ≡ defaultPlan kind → r ≡ planUsed kind (part plans from planBytes)
-  default-used h r e = e ∙ used-blank kind (part plans from planBytes) (part-long plans from planBytes fits) (sym blank-is ∙ h)
+  default-used h r e = e ∙ used-blank kind (part plans from planBytes) (part-length plans from planBytes fits) (sym blank-is ∙ h)
 
   pub copy-used : t ≡ false → (o r : List ℕ) → length o ≡ planBytes → r ≡ sets o 0 (part plans from planBytes) → r ≡ planUsed kind (part plans from planBytes)
   copy-used h o r l e =
-      e ∙ copy-whole o (part plans from planBytes) (l ∙ sym (part-long plans from planBytes fits)) ∙ used-given kind (part plans from planBytes) (sym blank-is ∙ h)
+      e
+      ∙ copy-whole o (part plans from planBytes) (l ∙ sym (part-length plans from planBytes fits))
+      ∙ used-given kind (part plans from planBytes) (sym blank-is ∙ h)

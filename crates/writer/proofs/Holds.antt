@@ -50,45 +50,46 @@ order-at (x ∷ kinds) plans counts zero h = (refl, refl)
 order-at (x ∷ kinds) plans [] (suc k) h = order-at kinds (drop planBytes plans) [] k (omega arith)
 order-at (x ∷ kinds) plans (c ∷ counts) (suc k) h = order-at kinds (drop planBytes plans) counts k (omega arith)
 
-abbrev pub OrdersBelow : List ℕ → List ℕ → ℕ → Type 0
-OrdersBelow kinds counts k = (plans : List ℕ) → HoldBelow orderHolds (ordersOf kinds plans counts) k
+pub record OrdersBelow (kinds counts : List ℕ) (k : ℕ) : Type 0 where
+  pub below : (plans : List ℕ) → HoldBelow orderHolds (ordersOf kinds plans counts) k
 
 -- what the test of each order answers
 abbrev pub AllHold : List ℕ → List ℕ → Bool → Type 0
 AllHold kinds counts t = (plans : List ℕ) → t ≡ all orderHolds (ordersOf kinds plans counts)
 
-module _ (kinds counts : List ℕ) (k : ℕ) (so : OrdersBelow kinds counts k) where
+pub orders-start : {kinds counts : List ℕ} → OrdersBelow kinds counts 0
+orders-start = record { below = λ plans. refl }
+
+module _ {kinds counts : List ℕ} {k : ℕ} (so : OrdersBelow kinds counts k) where
   pub orders-end : length kinds ≤ k → AllHold kinds counts true
-  orders-end h plans = sym (hold-end orderHolds (ordersOf kinds plans counts) k (so plans) (omega (arith, order-count kinds plans counts)))
+  orders-end h plans = sym (hold-end orderHolds (ordersOf kinds plans counts) k (so .below plans) (omega (arith, order-count kinds plans counts)))
 
   module _ (h : k < length kinds) where
     in-range : (plans : List ℕ) → k < length (ordersOf kinds plans counts)
     in-range plans = omega (arith, order-count kinds plans counts)
 
+    -- order k as it is asked
+    here : (plans : List ℕ) → orderHolds (orderAt kinds plans counts k) ≡ (leb (getD kinds k 0) rising && leb (getD counts k 0) mostNumbers)
+    here plans =
+        let (ek, ec) = order-at kinds plans counts k h in ap₂ (λ (a b : ℕ). leb a rising && leb b mostNumbers) ek ec
+
+    failing : leb (getD kinds k 0) rising && leb (getD counts k 0) mostNumbers ≡ false → AllHold kinds counts false
+    failing e plans = sym (hold-fail orderHolds (ordersOf kinds plans counts) blankOrder k (so .below plans) (in-range plans) (here plans ∙ e))
+
     pub kind-fails : rising < getD kinds k 0 → AllHold kinds counts false
-    kind-fails b plans =
-        let (ek, ec) = order-at kinds plans counts k h in
-        sym (hold-fail orderHolds (ordersOf kinds plans counts) blankOrder k (so plans) (in-range plans) (fails (orderAt kinds plans counts k .kind) (orderAt kinds plans counts k .count) (omega arith)))
-      where
-        fails : (a b : ℕ) → rising < a → leb a rising && leb b mostNumbers ≡ false
-        fails a b l = rw (lt-leb a rising l)
+    kind-fails b = failing (rw (lt-leb (getD kinds k 0) rising b))
 
     module _ (fine : getD kinds k 0 ≤ rising) where
       pub count-fails : mostNumbers < getD counts k 0 → AllHold kinds counts false
-      count-fails b plans =
-          let (ek, ec) = order-at kinds plans counts k h in
-          sym (hold-fail orderHolds (ordersOf kinds plans counts) blankOrder k (so plans) (in-range plans) (fails (orderAt kinds plans counts k .kind) (orderAt kinds plans counts k .count) (omega arith) (omega arith)))
-        where
-          fails : (a b : ℕ) → a ≤ rising → mostNumbers < b → leb a rising && leb b mostNumbers ≡ false
-          fails a b l m = rw (le-leb a rising l, lt-leb b mostNumbers m)
+      count-fails b = failing (rw (le-leb (getD kinds k 0) rising fine, lt-leb (getD counts k 0) mostNumbers b))
 
       pub orders-turn : getD counts k 0 ≤ mostNumbers → OrdersBelow kinds counts (k + 1)
-      orders-turn b plans =
-          let (ek, ec) = order-at kinds plans counts k h in
-          hold-turn orderHolds (ordersOf kinds plans counts) blankOrder k (so plans) (in-range plans) (holds (orderAt kinds plans counts k .kind) (orderAt kinds plans counts k .count) (omega arith) (omega arith))
-        where
-          holds : (a b : ℕ) → a ≤ rising → b ≤ mostNumbers → leb a rising && leb b mostNumbers ≡ true
-          holds a b l m = rw (le-leb a rising l, le-leb b mostNumbers m)
+      orders-turn b =
+          let e : leb (getD kinds k 0) rising && leb (getD counts k 0) mostNumbers ≡ true =
+          rw (le-leb (getD kinds k 0) rising fine, le-leb (getD counts k 0) mostNumbers b) in
+          record {
+            below = λ plans. hold-turn orderHolds (ordersOf kinds plans counts) blankOrder k (so .below plans) (in-range plans) (here plans ∙ e);
+          }
 
 -- ---- all that 11 asks
 and-last : (t u : Bool) → u ≡ false → false ≡ t && u
@@ -98,31 +99,33 @@ and-last false u e = refl
 module _ (kinds plans counts numbers : List ℕ) where
   pub hold-many : mostColumns < length kinds → false ≡ slicesHold kinds plans counts numbers
   unfolding ordersHold
-  hold-many h = and-last (longTogether kinds plans counts) _ (rw (lt-leb (length (ordersOf kinds plans counts)) mostColumns (omega (arith, order-count kinds plans counts))))
+  hold-many h =
+      let many : mostColumns < length (ordersOf kinds plans counts) = omega (arith, order-count kinds plans counts) in
+      and-last (longTogether kinds plans counts) _ (rw (lt-leb (length (ordersOf kinds plans counts)) mostColumns many))
 
-  module _ (few : length kinds ≤ mostColumns) where
-    pub hold-plans : (length plans ≡ planBytes * length kinds → ⊥) → false ≡ slicesHold kinds plans counts numbers
-    hold-plans h = rw (ne-eqb (length plans) (planBytes * length kinds) h)
+  pub hold-plans : (length plans ≡ planBytes * length kinds → ⊥) → false ≡ slicesHold kinds plans counts numbers
+  hold-plans h = rw (ne-eqb (length plans) (planBytes * length kinds) h)
 
-    module _ (planned : length plans ≡ planBytes * length kinds) where
-      pub hold-counts : (length counts ≡ length kinds → ⊥) → false ≡ slicesHold kinds plans counts numbers
-      hold-counts h = rw (eq-eqb (length plans) (planBytes * length kinds) planned, ne-eqb (length counts) (length kinds) h)
+  pub hold-counts : length plans ≡ planBytes * length kinds → (length counts ≡ length kinds → ⊥) → false ≡ slicesHold kinds plans counts numbers
+  hold-counts planned h = rw (eq-eqb (length plans) (planBytes * length kinds) planned, ne-eqb (length counts) (length kinds) h)
 
-      module _ (counted : length counts ≡ length kinds) (t : Bool) (is : AllHold kinds counts t) where
-        opened : slicesHold kinds plans counts numbers ≡ all orderHolds (ordersOf kinds plans counts) && eqb (sum counts) (length numbers)
-        unfolding ordersHold
-        opened =
-            rw (eq-eqb (length plans) (planBytes * length kinds) planned, eq-eqb (length counts) (length kinds) counted)
-            (rw (le-leb (length (ordersOf kinds plans counts)) mostColumns (omega (arith, order-count kinds plans counts)))
-            (ap (λ (l : List ℕ). all orderHolds (ordersOf kinds plans counts) && eqb (sum l) (length numbers)) (order-counts kinds plans counts counted)))
+  module _ (few : length kinds ≤ mostColumns) (planned : length plans ≡ planBytes * length kinds) (counted : length counts ≡ length kinds)
+      {t : Bool} (is : AllHold kinds counts t) where
+    opened : slicesHold kinds plans counts numbers ≡ all orderHolds (ordersOf kinds plans counts) && eqb (sum counts) (length numbers)
+    unfolding ordersHold
+    opened =
+        rw (eq-eqb (length plans) (planBytes * length kinds) planned, eq-eqb (length counts) (length kinds) counted)
+        (rw (le-leb (length (ordersOf kinds plans counts)) mostColumns (omega (arith, order-count kinds plans counts)))
+        (ap (λ (l : List ℕ). all orderHolds (ordersOf kinds plans counts) && eqb (sum l) (length numbers)) (order-counts kinds plans counts counted)))
 
-        pub hold-entries : not t ≡ true → false ≡ slicesHold kinds plans counts numbers
-        hold-entries e = sym (opened ∙ ap (λ (b : Bool). b && eqb (sum counts) (length numbers)) (sym (is plans) ∙ not-true t e))
+    pub hold-entries : not t ≡ true → false ≡ slicesHold kinds plans counts numbers
+    hold-entries e = sym (opened ∙ ap (λ (b : Bool). b && eqb (sum counts) (length numbers)) (sym (is plans) ∙ not-true t e))
 
-        pub hold-sum : not t ≡ false → (s : ℕ) → s ≡ sum counts → eqb s (length numbers) ≡ slicesHold kinds plans counts numbers
-        hold-sum e s es = sym (opened ∙ ap₂ (λ (b : Bool) (j : ℕ). b && eqb j (length numbers)) (sym (is plans) ∙ not-false t e) (sym es))
+    pub hold-sum : not t ≡ false → {s : ℕ} → s ≡ sum counts → eqb s (length numbers) ≡ slicesHold kinds plans counts numbers
+    hold-sum e es = sym (opened ∙ ap₂ (λ (b : Bool) (j : ℕ). b && eqb j (length numbers)) (sym (is plans) ∙ not-false t e) (sym es))
 
-counts-small : (kinds plans counts : List ℕ) → length counts ≡ length kinds → all orderHolds (ordersOf kinds plans counts) ≡ true → (k : ℕ) → getD counts k 0 ≤ mostNumbers
+counts-small : (kinds plans counts : List ℕ) → length counts ≡ length kinds → all orderHolds (ordersOf kinds plans counts) ≡ true
+    → (k : ℕ) → getD counts k 0 ≤ mostNumbers
 unfolding ordersOf all
 counts-small kinds plans [] e a k = omega arith
 counts-small [] plans (c ∷ counts) e a k = absurd (omega arith)
@@ -144,5 +147,7 @@ ordered kinds plans counts numbers e =
       planned = eqb-true (length plans) (planBytes * length kinds) p;
       counted = counted;
       small = counts-small kinds plans counts counted a;
-      whole = sym (ap sum (order-counts kinds plans counts counted)) ∙ eqb-true (sum (map (λ (o : Order). o .count) (ordersOf kinds plans counts))) (length numbers) s;
+      whole =
+          sym (ap sum (order-counts kinds plans counts counted))
+          ∙ eqb-true (sum (map (λ (o : Order). o .count) (ordersOf kinds plans counts))) (length numbers) s;
     }

@@ -1,8 +1,8 @@
 -- Laws of the writer.
 pub mod Columns
 pub mod Sums
-pub mod Copies
 pub mod Entries
+pub mod PutColumn
 pub mod Laying
 pub mod Holds
 pub mod Order

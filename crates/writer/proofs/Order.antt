@@ -2,7 +2,7 @@
 use Prim.Native.Nat.{ℕ, _*_, _≤_, _<_}
 use mathlib.Core.Path.{_≡_, refl, sym, ap, ap₂, _∙_}
 use mathlib.Core.Bool.{Bool, true, false, not, _&&_}
-use mathlib.Core.List.{List, _++_, map}
+use mathlib.Core.List.{List, _++_}
 use native.Mathlib.Nat.{zero-add}
 use native.Mathlib.Omega.{arith}
 use lib.Dec.{leb}
@@ -10,7 +10,7 @@ use lib.ListN.{length, getD, drop}
 use lib.Seq.{sets-eq}
 use borrow.Author.Tests.{le-leb, lt-leb, not-true, not-false}
 use Rattle.meaning.specs.Answer.{Answer, given, refused, need, amount, filled, Verdict, passed, blamed, inTurn, after}
-use Rattle.meaning.specs.Limits.{mostBytes, badOrders, falls, shortWork, noRoom}
+use Rattle.meaning.specs.Limits.{mostBytes, badOrders, fallen, shortWork, noRoom}
 use Rattle.meaning.specs.Lists.{all, largest}
 use Rattle.meaning.specs.Operations.{writeListed, writeSheet, writeApart}
 use Rattle.meaning.specs.Says.{judgedSays, sizedSays}
@@ -45,87 +45,113 @@ sheetIn ls room = need (leb (length (sheetBytes ls)) mostBytes && leb (length (s
 abbrev sheetBy : List Listed → ℕ → ℕ → ℕ → Answer (List ℕ)
 sheetBy ls most work room = need (leb (7 * most) work) shortWork (sheetIn ls room)
 
+-- the answer to the slices, and what the writer's contract says of its own answer and of the output afterwards
+abbrev answer : List ℕ → List ℕ → List ℕ → List ℕ → List ℕ → List ℕ → Answer (List ℕ)
+answer kinds plans counts numbers w o = writeApart kinds plans counts numbers (length w) (length o)
+
+abbrev Told : List ℕ → List ℕ → List ℕ → List ℕ → List ℕ → List ℕ → Sized → List ℕ → Type 0
+Told kinds plans counts numbers w o r o′ =
+    (sizedSays r ≡ amount (answer kinds plans counts numbers w o)) × (o′ ≡ filled (answer kinds plans counts numbers w o) o)
+
+-- ---- what is known past 11, past the plans and 10, and past 8: of the slices, and of the answer
+pub record PastOrders (kinds plans counts numbers w o : List ℕ) : Type 0 where
+  pub ordered : Ordered kinds plans counts numbers
+  pub left : answer kinds plans counts numbers w o ≡ writeListed (columnsBy kinds plans counts numbers) (length w) (length o)
+
+pub record PastLists (kinds plans counts numbers w o : List ℕ) : Type 0 where
+  pub ordered : Ordered kinds plans counts numbers
+  pub left : answer kinds plans counts numbers w o ≡ sheetBy (columnsBy kinds plans counts numbers) (largest counts) (length w) (length o)
+
+pub record PastWork (kinds plans counts numbers w o : List ℕ) : Type 0 where
+  pub ordered : Ordered kinds plans counts numbers
+  pub serves : (k : ℕ) → 7 * getD counts k 0 ≤ length w
+  pub left : answer kinds plans counts numbers w o ≡ sheetIn (columnsBy kinds plans counts numbers) (length o)
+
 module _ (kinds plans counts numbers w o : List ℕ) where
-  abbrev ls : List Listed
-  ls = columnsBy kinds plans counts numbers
-
-  abbrev answer : Answer (List ℕ)
-  answer = writeApart kinds plans counts numbers (length w) (length o)
-
-  -- what the writer's contract says of its answer and of the output afterwards
-  abbrev Told : Sized → List ℕ → Type 0
-  Told r o′ = (sizedSays r ≡ amount answer) × (o′ ≡ filled answer o)
-
-  told-refused : (z : ℕ) → answer ≡ refused z → Told (sized.Refused z) o
+  told-refused : (z : ℕ) → answer kinds plans counts numbers w o ≡ refused z → Told kinds plans counts numbers w o (sized.Refused z) o
   told-refused z e = (ap amount (sym e), ap (λ (x : Answer (List ℕ)). filled x o) (sym e))
 
-  -- the two ways to 11 are one
-  one-eleven : answer ≡ need (slicesHold kinds plans counts numbers) badOrders (writeListed ls (length w) (length o))
-  unfolding writeApart writeSheet
-  one-eleven = need-both (longTogether kinds plans counts) _ badOrders _
+  module _ {held : Bool} (eh : held ≡ slicesHold kinds plans counts numbers) where
+    -- the two ways to 11 are one
+    one-eleven : answer kinds plans counts numbers w o ≡ need held badOrders (writeListed (columnsBy kinds plans counts numbers) (length w) (length o))
+    unfolding writeApart writeSheet
+    one-eleven =
+        let rest = writeListed (columnsBy kinds plans counts numbers) (length w) (length o) in
+        need-both (longTogether kinds plans counts) _ badOrders rest ∙ ap (λ (b : Bool). need b badOrders rest) (sym eh)
 
-  module _ (held : Bool) (eh : held ≡ slicesHold kinds plans counts numbers) where
-    pub refuse-orders : not held ≡ true → Told (sized.Refused badOrders) o
-    refuse-orders e =
-        told-refused badOrders (one-eleven ∙ ap (λ (b : Bool). need b badOrders (writeListed ls (length w) (length o))) (sym eh ∙ not-true held e))
+    pub refuse-orders : not held ≡ true → Told kinds plans counts numbers w o (sized.Refused badOrders) o
+    refuse-orders e = told-refused badOrders (one-eleven ∙ rw (not-true held e))
 
-    module _ (h : not held ≡ false) where
-      pub in-order : Ordered kinds plans counts numbers
-      in-order = ordered kinds plans counts numbers (sym eh ∙ not-false held h)
+    pub past-orders : not held ≡ false → PastOrders kinds plans counts numbers w o
+    past-orders e = record { ordered = ordered kinds plans counts numbers (sym eh ∙ not-false held e); left = one-eleven ∙ rw (not-false held e) }
 
-      past-orders : answer ≡ writeListed ls (length w) (length o)
-      past-orders = one-eleven ∙ ap (λ (b : Bool). need b badOrders (writeListed ls (length w) (length o))) (sym eh ∙ not-false held h)
+module _ {kinds plans counts numbers w o : List ℕ} (past : PastOrders kinds plans counts numbers w o) where
+  pub refuse-plan : {j : Judged} {z : ℕ} → j ≡ judged.Refused z → judgedSays j ≡ verdictTold (inTurn listJudged 0 (columnsBy kinds plans counts numbers))
+      → Told kinds plans counts numbers w o (sized.Refused z) o
+  unfolding writeListed
+  refuse-plan {j} {z} e ej =
+      let ls = columnsBy kinds plans counts numbers in
+      told-refused kinds plans counts numbers w o z (past .left ∙ after-refused (inTurn listJudged 0 ls) z _ (sym (ap judgedSays e) ∙ ej))
 
-      module _ (j : Judged) (ej : judgedSays j ≡ verdictTold (inTurn listJudged 0 ls)) where
-        pub refuse-plan : (z : ℕ) → j ≡ judged.Refused z → Told (sized.Refused z) o
-        unfolding writeListed
-        refuse-plan z e = told-refused z (past-orders ∙ after-refused (inTurn listJudged 0 ls) z _ (sym (ap judgedSays e) ∙ ej))
+  module _ {j : Judged} (pj : j ≡ judged.Passed) (ej : judgedSays j ≡ verdictTold (inTurn listJudged 0 (columnsBy kinds plans counts numbers)))
+      {rise : Bool} (er : rise ≡ all listRises (columnsBy kinds plans counts numbers)) where
+    past-plans : answer kinds plans counts numbers w o
+        ≡ need rise fallen (sheetBy (columnsBy kinds plans counts numbers) (largest counts) (length w) (length o))
+    unfolding writeListed
+    past-plans =
+        let ls = columnsBy kinds plans counts numbers in
+        past .left ∙ after-passed (inTurn listJudged 0 ls) _ (sym (ap judgedSays pj) ∙ ej)
+        ∙ ap₂ (λ (b : Bool) (m : ℕ). need b fallen (sheetBy ls m (length w) (length o)))
+        (sym er) (ap largest (list-lengths kinds plans counts numbers (past .ordered .counted) (past .ordered .whole)))
 
-        module _ (pj : j ≡ judged.Passed) (rise : Bool) (er : rise ≡ all listRises ls) where
-          past-plans : answer ≡ need rise falls (sheetBy ls (largest (map (λ (c : Listed). length (c .numbers)) ls)) (length w) (length o))
-          unfolding writeListed
-          past-plans =
-              past-orders ∙ after-passed (inTurn listJudged 0 ls) _ (sym (ap judgedSays pj) ∙ ej)
-              ∙ ap (λ (b : Bool). need b falls (sheetBy ls (largest (map (λ (c : Listed). length (c .numbers)) ls)) (length w) (length o))) (sym er)
+    pub refuse-list : not rise ≡ true → Told kinds plans counts numbers w o (sized.Refused fallen) o
+    refuse-list e = told-refused kinds plans counts numbers w o fallen (past-plans ∙ rw (not-true rise e))
 
-          pub refuse-list : not rise ≡ true → Told (sized.Refused falls) o
-          refuse-list e = told-refused falls (past-plans ∙ rw (not-true rise e))
+    pub past-lists : not rise ≡ false → PastLists kinds plans counts numbers w o
+    past-lists e = record { ordered = past .ordered; left = past-plans ∙ rw (not-false rise e) }
 
-          module _ (fr : not rise ≡ false) (most : ℕ) (em : most ≡ largest counts) where
-            past-lists : answer ≡ sheetBy ls most (length w) (length o)
-            past-lists =
-                past-plans
-                ∙ ap₂ (λ (b : Bool) (m : ℕ). need b falls (sheetBy ls m (length w) (length o)))
-                (not-false rise fr) (ap largest (list-lengths kinds plans counts numbers (in-order .counted) (in-order .whole)) ∙ sym em)
+module _ {kinds plans counts numbers w o : List ℕ} (past : PastLists kinds plans counts numbers w o) {most : ℕ} (em : most ≡ largest counts) where
+  pub refuse-work : length w < 7 * most → Told kinds plans counts numbers w o (sized.Refused shortWork) o
+  refuse-work l =
+      told-refused kinds plans counts numbers w o shortWork (past .left ∙ rw (lt-leb (7 * largest counts) (length w) (omega arith)))
 
-            pub refuse-work : length w < 7 * most → Told (sized.Refused shortWork) o
-            refuse-work l = told-refused shortWork (past-lists ∙ rw (lt-leb (7 * most) (length w) l))
+  pub past-work : 7 * most ≤ length w → PastWork kinds plans counts numbers w o
+  past-work l =
+      record {
+        ordered = past .ordered;
+        serves = λ k. omega (arith, each-largest counts k);
+        left = past .left ∙ rw (le-leb (7 * largest counts) (length w) (omega arith));
+      }
 
-            module _ (enough : 7 * most ≤ length w) (s s′ : List ℕ) (size : ℕ) (laid : Laid (sheetBytes ls) s s′ size) where
-              past-work : answer ≡ sheetIn ls (length o)
-              past-work = past-lists ∙ rw (le-leb (7 * most) (length w) enough)
+-- the first pass has told the size
+module _ {kinds plans counts numbers w o : List ℕ} (past : PastWork kinds plans counts numbers w o)
+    {s s′ : List ℕ} {size : ℕ} (laid : Laid (sheetBytes (columnsBy kinds plans counts numbers)) s s′ size) where
+  abbrev bytes : List ℕ
+  bytes = sheetBytes (columnsBy kinds plans counts numbers)
 
-              pub refuse-large : mostBytes < size → Told (sized.Refused noRoom) o
-              refuse-large l = told-refused noRoom (past-work ∙ rw (lt-leb (length (sheetBytes ls)) mostBytes (laid .over l)))
+  pub refuse-large : mostBytes < size → Told kinds plans counts numbers w o (sized.Refused noRoom) o
+  refuse-large l = told-refused kinds plans counts numbers w o noRoom (past .left ∙ rw (lt-leb (length bytes) mostBytes (laid .over l)))
 
-              module _ (small : size ≤ mostBytes) where
-                within : leb (length (sheetBytes ls)) mostBytes ≡ true
-                within = le-leb (length (sheetBytes ls)) mostBytes (omega (arith, laid .told small .0))
+  module _ (small : size ≤ mostBytes) where
+    within : leb (length bytes) mostBytes ≡ true
+    within = le-leb (length bytes) mostBytes (omega (arith, laid .told small .0))
 
-                pub refuse-room : length o < size → Told (sized.Refused noRoom) o
-                refuse-room l = told-refused noRoom (past-work ∙ rw (within, lt-leb (length (sheetBytes ls)) (length o) (omega (arith, laid .told small .0))))
+    pub refuse-room : length o < size → Told kinds plans counts numbers w o (sized.Refused noRoom) o
+    refuse-room l =
+        let long : length o < length bytes = omega (arith, laid .told small .0) in
+        told-refused kinds plans counts numbers w o noRoom (past .left ∙ rw (within, lt-leb (length bytes) (length o) long))
 
-                -- the second pass says what the first did
-                pub accepted : size ≤ length o → (o′ : List ℕ) (end : ℕ) → Laid (sheetBytes ls) o o′ end → Told (sized.Bytes end) o′
-                accepted l o′ end again =
-                    let fits : length (sheetBytes ls) ≤ length o = omega (arith, laid .told small .0) in
-                    let e : answer ≡ given (sheetBytes ls) = past-work ∙ rw (within, le-leb (length (sheetBytes ls)) (length o) fits) in
-                    let low : end ≤ mostBytes = by-order mostBytes end (λ g. absurd (omega (arith, laid .told small .0, again .over g))) (λ g. g) in
-                    let (same, here) = again .told low in (
-                      ap (λ (k : ℕ). given k) same ∙ ap amount (sym e),
-                      here ∙ sets-eq (sheetBytes ls) o 0 (omega arith) ∙ ap (λ (k : ℕ). sheetBytes ls ++ drop k o) (zero-add (length (sheetBytes ls))) ∙ ap (λ (x : Answer (List ℕ)). filled x o) (sym e),
-                    )
-
--- work for 7 times the largest list serves each
-pub work-serves : (counts : List ℕ) (work room most : ℕ) → most ≡ largest counts → 7 * most ≤ work → room ≡ work → (k : ℕ) → 7 * getD counts k 0 ≤ room
-work-serves counts work room most e h l k = omega (arith, each-largest counts k)
+    -- the second pass says what the first did
+    pub accepted : size ≤ length o → {o′ : List ℕ} {end : ℕ} → Laid (sheetBytes (columnsBy kinds plans counts numbers)) o o′ end
+        → Told kinds plans counts numbers w o (sized.Bytes end) o′
+    accepted l {o′} {end} again =
+        let fits : length bytes ≤ length o = omega (arith, laid .told small .0) in
+        let e : answer kinds plans counts numbers w o ≡ given bytes = past .left ∙ rw (within, le-leb (length bytes) (length o) fits) in
+        let low : end ≤ mostBytes = by-order mostBytes end (λ g. absurd (omega (arith, laid .told small .0, again .over g))) (λ g. g) in
+        let (same, here) = again .told low in (
+          ap (λ (k : ℕ). given k) same ∙ ap amount (sym e),
+          here
+              ∙ sets-eq bytes o 0 (omega arith)
+              ∙ ap (λ (k : ℕ). bytes ++ drop k o) (zero-add (length bytes))
+              ∙ ap (λ (x : Answer (List ℕ)). filled x o) (sym e),
+        )

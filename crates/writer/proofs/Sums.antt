@@ -38,13 +38,13 @@ pub record Summing (counts : List ℕ) (s k : ℕ) : Type 0 where
   pub most : k ≤ length counts
   pub small : s ≤ numberLimit * k
 
-pub summing-start : (counts : List ℕ) → Summing counts 0 0
+pub summing-start : {counts : List ℕ} → Summing counts 0 0
 unfolding sum
-summing-start counts = record { is = refl; most = omega arith; small = omega arith }
+summing-start = record { is = refl; most = omega arith; small = omega arith }
 
-module _ (counts : List ℕ) (s k : ℕ) (so : Summing counts s k) where
-  pub summing-turn : k < length counts → (x : ℕ) → x ≡ getD counts k 0 → x < numberLimit → Summing counts (s + x) (k + 1)
-  summing-turn h x e l =
+module _ {counts : List ℕ} {s k : ℕ} (so : Summing counts s k) where
+  pub summing-turn : k < length counts → {x : ℕ} → x ≡ getD counts k 0 → x < numberLimit → Summing counts (s + x) (k + 1)
+  summing-turn h e l =
       record { is = omega (arith, so .is, start-next counts k h); most = omega arith; small = omega (arith, so .small) }
 
   pub summing-end : length counts ≤ k → s ≡ sum counts
@@ -57,13 +57,13 @@ pub record Largest (counts : List ℕ) (m k : ℕ) : Type 0 where
   pub rest : largest counts ≡ max m (largest (drop k counts))
   pub small : m < numberLimit
 
-pub largest-start : (counts : List ℕ) → Largest counts 0 0
-largest-start counts = record { rest = omega arith; small = omega arith }
+pub largest-start : {counts : List ℕ} → Largest counts 0 0
+largest-start = record { rest = omega arith; small = omega arith }
 
-module _ (counts : List ℕ) (m k : ℕ) (so : Largest counts m k) where
-  pub largest-turn : k < length counts → (x m′ : ℕ) → x ≡ getD counts k 0 → x < numberLimit → m′ ≡ max m x → Largest counts m′ (k + 1)
+module _ {counts : List ℕ} {m k : ℕ} (so : Largest counts m k) where
+  pub largest-turn : k < length counts → {x m′ : ℕ} → x ≡ getD counts k 0 → x < numberLimit → m′ ≡ max m x → Largest counts m′ (k + 1)
   unfolding largest
-  largest-turn h x m′ e l f =
+  largest-turn h e l f =
       let next : largest (drop k counts) ≡ max (getD counts k 0) (largest (drop (suc k) counts)) = ap largest (drop-cons counts k 0 h) in
       let one : largest (drop (suc k) counts) ≡ largest (drop (k + 1) counts) = rw add-one in
       record { rest = omega (arith, so .rest); small = omega (arith, so .small) }

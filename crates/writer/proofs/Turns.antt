@@ -19,78 +19,100 @@ use Rattle.table.proofs.InTurn.{PassedBelow, below-turn, below-refuse, below-en
 use Rattle.table.proofs.Lists.{HoldBelow, hold-turn, hold-fail, hold-end}
 use Rattle.writer.specs.Orders.{columnsBy, blankListed, listStart, listJudged, listRises, verdictTold}
 use Rattle.writer.proofs.Columns.{column-count, column-is}
-use Rattle.writer.proofs.Sums.{start-next}
+use Rattle.writer.proofs.Sums.{start-next, list-within}
 
 -- ---- plans
-abbrev pub JudgedBelow : List ℕ → List ℕ → ℕ → Type 0
-JudgedBelow kinds plans k = (counts numbers : List ℕ) → PassedBelow listJudged (columnsBy kinds plans counts numbers) k
+pub record JudgedBelow (kinds plans : List ℕ) (k : ℕ) : Type 0 where
+  pub below : (counts numbers : List ℕ) → PassedBelow listJudged (columnsBy kinds plans counts numbers) k
 
 abbrev pub JudgedAs : List ℕ → List ℕ → Judged → Type 0
 JudgedAs kinds plans r = (counts numbers : List ℕ) → judgedSays r ≡ verdictTold (inTurn listJudged 0 (columnsBy kinds plans counts numbers))
 
-module _ (kinds plans : List ℕ) (k : ℕ) (so : JudgedBelow kinds plans k) where
+pub judged-start : {kinds plans : List ℕ} → JudgedBelow kinds plans 0
+judged-start = record { below = λ counts numbers. refl }
+
+module _ {kinds plans : List ℕ} {k : ℕ} (so : JudgedBelow kinds plans k) where
   pub judged-end : length kinds ≤ k → JudgedAs kinds plans judged.Passed
   judged-end h counts numbers =
-      ap verdictTold (sym (below-end listJudged (columnsBy kinds plans counts numbers) k (so counts numbers) (omega (arith, column-count kinds plans counts numbers))))
+      let ls = columnsBy kinds plans counts numbers in
+      ap verdictTold (sym (below-end listJudged ls k (so .below counts numbers) (omega (arith, column-count kinds plans counts numbers))))
 
-  module _ (h : k < length kinds) (plan : List ℕ) (ep : plan ≡ planUsed (getD kinds k 0) (part plans (planBytes * k) planBytes))
-      (r : Judged) (is : judgedSays r ≡ judgePlan (getD kinds k 0) plan) where
-    judged-here : (counts numbers : List ℕ) → listJudged (getD (columnsBy kinds plans counts numbers) k blankListed) ≡ judgedSays r
-    judged-here counts numbers =
+  module _ (h : k < length kinds) {plan : List ℕ} (ep : plan ≡ planUsed (getD kinds k 0) (part plans (planBytes * k) planBytes)) where
+    judged-here : (r : Judged) → judgedSays r ≡ judgePlan (getD kinds k 0) plan
+        → (counts numbers : List ℕ) → listJudged (getD (columnsBy kinds plans counts numbers) k blankListed) ≡ judgedSays r
+    judged-here r is counts numbers =
         ap listJudged (column-is kinds plans counts numbers k h) ∙ ap (judgePlan (getD kinds k 0)) (sym ep) ∙ sym is
 
-    pub judged-turn : r ≡ judged.Passed → JudgedBelow kinds plans (k + 1)
-    judged-turn e counts numbers =
-        below-turn listJudged (columnsBy kinds plans counts numbers) blankListed k (so counts numbers) (omega (arith, column-count kinds plans counts numbers))
-        tt (judged-here counts numbers ∙ ap judgedSays e)
+    in-columns : (counts numbers : List ℕ) → k < length (columnsBy kinds plans counts numbers)
+    in-columns counts numbers = omega (arith, column-count kinds plans counts numbers)
 
-    pub judged-refuse : (z : ℕ) → r ≡ judged.Refused z → JudgedAs kinds plans (judged.Refused z)
-    judged-refuse z e counts numbers =
+    pub judged-turn : {r : Judged} → judgedSays r ≡ judgePlan (getD kinds k 0) plan → r ≡ judged.Passed → JudgedBelow kinds plans (k + 1)
+    judged-turn {r} is e =
+        record {
+          below = λ counts numbers.
+              below-turn listJudged (columnsBy kinds plans counts numbers) blankListed k (so .below counts numbers) (in-columns counts numbers)
+              tt (judged-here r is counts numbers ∙ ap judgedSays e);
+        }
+
+    pub judged-refuse : {r : Judged} → judgedSays r ≡ judgePlan (getD kinds k 0) plan → {z : ℕ} → r ≡ judged.Refused z → JudgedAs kinds plans (judged.Refused z)
+    judged-refuse {r} is {z} e counts numbers =
         ap verdictTold
-        (sym (below-refuse listJudged (columnsBy kinds plans counts numbers) blankListed k (so counts numbers) (omega (arith, column-count kinds plans counts numbers))
-        z (judged-here counts numbers ∙ ap judgedSays e)))
+        (sym (below-refuse listJudged (columnsBy kinds plans counts numbers) blankListed k (so .below counts numbers) (in-columns counts numbers)
+        z (judged-here r is counts numbers ∙ ap judgedSays e)))
 
 -- ---- a list of its kind
 module _ (kind : ℕ) (xs : List ℕ) where
-  pub kind-rising : kind ≡ rising → (r : Bool) → r ≡ rises xs → r ≡ ofKind kind xs
+  pub kind-rising : kind ≡ rising → {r : Bool} → r ≡ rises xs → r ≡ ofKind kind xs
   unfolding ofKind
-  kind-rising h r e = rw (eq-eqb kind rising h) e
+  kind-rising h e = rw (eq-eqb kind rising h) e
 
   pub kind-any : (kind ≡ rising → ⊥) → true ≡ ofKind kind xs
   unfolding ofKind
   kind-any h = rw (ne-eqb kind rising h)
 
--- ---- lists
+-- ---- lists: those below k are of their kinds, and the next begins at `from`
 pub record RisingBelow (kinds counts numbers : List ℕ) (from k : ℕ) : Type 0 where
+  pub counted : length counts ≡ length kinds
+  pub whole : sum counts ≡ length numbers
   pub starts : from ≡ listStart counts k
   pub below : (plans : List ℕ) → HoldBelow listRises (columnsBy kinds plans counts numbers) k
 
 abbrev pub AllRise : List ℕ → List ℕ → List ℕ → Bool → Type 0
 AllRise kinds counts numbers t = (plans : List ℕ) → t ≡ all listRises (columnsBy kinds plans counts numbers)
 
-pub rising-start : (kinds counts numbers : List ℕ) → RisingBelow kinds counts numbers 0 0
+pub rising-start : {kinds counts numbers : List ℕ} → length counts ≡ length kinds → sum counts ≡ length numbers → RisingBelow kinds counts numbers 0 0
 unfolding sum
-rising-start kinds counts numbers = record { starts = refl; below = λ plans. refl }
+rising-start c w = record { counted = c; whole = w; starts = refl; below = λ plans. refl }
 
-module _ (kinds counts numbers : List ℕ) (from k : ℕ) (so : RisingBelow kinds counts numbers from k) where
+module _ {kinds counts numbers : List ℕ} {from k : ℕ} (so : RisingBelow kinds counts numbers from k) where
   pub rising-end : length kinds ≤ k → AllRise kinds counts numbers true
-  rising-end h plans = sym (hold-end listRises (columnsBy kinds plans counts numbers) k (so .below plans) (omega (arith, column-count kinds plans counts numbers)))
+  rising-end h plans =
+      sym (hold-end listRises (columnsBy kinds plans counts numbers) k (so .below plans) (omega (arith, column-count kinds plans counts numbers)))
 
-  module _ (h : k < length kinds) (n : ℕ) (en : n ≡ getD counts k 0) (t : Bool) (is : t ≡ ofKind (getD kinds k 0) (part numbers from n)) where
-    rises-here : (plans : List ℕ) → listRises (getD (columnsBy kinds plans counts numbers) k blankListed) ≡ t
-    rises-here plans =
-        ap listRises (column-is kinds plans counts numbers k h)
-        ∙ ap₂ (λ (i j : ℕ). ofKind (getD kinds k 0) (part numbers i j)) (sym (so .starts)) (sym en)
-        ∙ sym is
+  module _ (h : k < length kinds) {n : ℕ} (en : n ≡ getD counts k 0) where
+    pub rising-within : from + n ≤ length numbers
+    rising-within = omega (arith, so .starts, so .whole, list-within counts k (omega (arith, so .counted)))
 
-    pub rising-fail : not t ≡ true → AllRise kinds counts numbers false
-    rising-fail e plans =
-        sym (hold-fail listRises (columnsBy kinds plans counts numbers) blankListed k (so .below plans) (omega (arith, column-count kinds plans counts numbers)) (rises-here plans ∙ not-true t e))
+    module _ {t : Bool} (is : t ≡ ofKind (getD kinds k 0) (part numbers from n)) where
+      rises-here : (plans : List ℕ) → listRises (getD (columnsBy kinds plans counts numbers) k blankListed) ≡ t
+      rises-here plans =
+          ap listRises (column-is kinds plans counts numbers k h)
+          ∙ ap₂ (λ (i j : ℕ). ofKind (getD kinds k 0) (part numbers i j)) (sym (so .starts)) (sym en)
+          ∙ sym is
 
-    pub rising-turn : length counts ≡ length kinds → not t ≡ false → RisingBelow kinds counts numbers (from + n) (k + 1)
-    rising-turn l e =
-        record {
-          starts = omega (arith, so .starts, start-next counts k (omega arith));
-          below = λ plans.
-              hold-turn listRises (columnsBy kinds plans counts numbers) blankListed k (so .below plans) (omega (arith, column-count kinds plans counts numbers)) (rises-here plans ∙ not-false t e);
-        }
+      in-lists : (plans : List ℕ) → k < length (columnsBy kinds plans counts numbers)
+      in-lists plans = omega (arith, column-count kinds plans counts numbers)
+
+      pub rising-fail : not t ≡ true → AllRise kinds counts numbers false
+      rising-fail e plans =
+          sym (hold-fail listRises (columnsBy kinds plans counts numbers) blankListed k (so .below plans) (in-lists plans) (rises-here plans ∙ not-true t e))
+
+      pub rising-turn : not t ≡ false → RisingBelow kinds counts numbers (from + n) (k + 1)
+      rising-turn e =
+          record {
+            counted = so .counted;
+            whole = so .whole;
+            starts = omega (arith, so .starts, start-next counts k (omega (arith, so .counted)));
+            below = λ plans.
+                hold-turn listRises (columnsBy kinds plans counts numbers) blankListed k (so .below plans) (in-lists plans) (rises-here plans ∙ not-false t e);
+          }

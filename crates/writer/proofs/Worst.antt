@@ -1,6 +1,6 @@
 -- What is written is at most the worst size, so an output of the worst size is enough. Assumes nothing.
 use Prim.Native.Nat.{ℕ, zero, suc, _+_, _*_, _≤_, _<_}
-use mathlib.Core.Path.{_≡_}
+use mathlib.Core.Path.{_≡_, ap}
 use mathlib.Core.Bool.{true}
 use mathlib.Core.List.{List, [], _∷_, map}
 use native.Mathlib.Omega.{arith}
@@ -13,15 +13,16 @@ use Rattle.meaning.specs.Lists.{all, sum, joined, largest}
 use Rattle.meaning.specs.Operations.{Order, listedBy, ordersHold, writeListed, writeSheet}
 use Rattle.meaning.specs.Places.{Below}
 use Rattle.meaning.specs.Plan.{planOf, wellFormed, judgePlan, worstPlan}
-use Rattle.meaning.specs.Sheet.{Listed, bodyOf, entryBytes, sheetBytes, worstSheet, entrySize}
+use Rattle.meaning.specs.Sheet.{Listed, bodyOf, columnFor, entryOf, sheetBytes, worstSheet, entrySize}
 use Rattle.meaning.proofs.Answers.{need-given}
 use Rattle.meaning.proofs.Bounds.{below-nil, below-take, below-drop}
 use Rattle.meaning.proofs.Tests.{both-true}
 use Rattle.codes.proofs.Numbered.{laws}
 use Rattle.stages.proofs.Most.{most}
 use Rattle.table.proofs.InTurn.{each-passed}
-use Rattle.writer.specs.Orders.{blankListed, orderHolds, listJudged, listRises}
-use Rattle.writer.proofs.Entries.{entry-long}
+use Rattle.table.proofs.EntryFormat.{entry-long}
+use Rattle.writer.specs.Orders.{blankListed, orderHolds, listJudged, listRises, entryLaid}
+use Rattle.writer.proofs.Laying.{sheet-is}
 
 -- a column whose plan has 15 bytes, and whose list has few and small numbers
 pub record Fine (l : Listed) : Type 0 where
@@ -36,13 +37,15 @@ judged-long l u e =
     let (formed, rest) = need-given (wellFormed (l .plan)) badPlan _ u e in
     eqb-true (length (l .plan)) planBytes (both-true (eqb (length (l .plan)) planBytes) _ formed .0)
 
-pub listed-small : (m : ℕ) → 0 < m → (orders : List Order) (numbers : List ℕ) → Below m numbers → (k : ℕ) → Below m (getD (listedBy orders numbers) k blankListed .numbers)
+pub listed-small : (m : ℕ) → 0 < m → (orders : List Order) (numbers : List ℕ) → Below m numbers
+    → (k : ℕ) → Below m (getD (listedBy orders numbers) k blankListed .numbers)
 unfolding listedBy
 listed-small m p [] numbers h k = below-nil m p
 listed-small m p (o ∷ os) numbers h zero = below-take m (o .count) numbers h
 listed-small m p (o ∷ os) numbers h (suc k) = listed-small m p os (drop (o .count) numbers) (below-drop m (o .count) numbers h) k
 
-pub listed-few : (orders : List Order) (numbers : List ℕ) → all orderHolds orders ≡ true → (k : ℕ) → length (getD (listedBy orders numbers) k blankListed .numbers) ≤ mostNumbers
+pub listed-few : (orders : List Order) (numbers : List ℕ) → all orderHolds orders ≡ true
+    → (k : ℕ) → length (getD (listedBy orders numbers) k blankListed .numbers) ≤ mostNumbers
 unfolding listedBy all
 listed-few [] numbers h k = omega arith
 listed-few (o ∷ os) numbers h zero =
@@ -53,9 +56,10 @@ listed-few (o ∷ os) numbers h (suc k) = listed-few os (drop (o .count) numbers
 
 -- what each column adds to the worst size
 abbrev worstColumn : Listed → ℕ
-worstColumn l = entrySize + worstPlan (planOf (l .plan)) (length (l .numbers))
+worstColumn l = entrySize 1 + worstPlan (planOf (l .plan)) (length (l .numbers))
 
-columns-most : (ls : List Listed) → ((k : ℕ) → k < length ls → Fine (getD ls k blankListed)) → length (joined entryBytes ls) + length (joined bodyOf ls) ≤ sum (map worstColumn ls)
+columns-most : (ls : List Listed) → ((k : ℕ) → k < length ls → Fine (getD ls k blankListed))
+    → length (joined entryLaid ls) + length (joined bodyOf ls) ≤ sum (map worstColumn ls)
 unfolding joined sum
 columns-most [] fine = omega arith
 columns-most (l ∷ ls) fine =
@@ -63,22 +67,23 @@ columns-most (l ∷ ls) fine =
     omega (
       arith,
       columns-most ls (λ (k : ℕ) (h : k < length ls). fine (suc k) (omega arith)),
-      length-append (entryBytes l) (joined entryBytes ls),
+      length-append (entryLaid l) (joined entryLaid ls),
       length-append (bodyOf l) (joined bodyOf ls),
-      entry-long l (f .planned),
+      entry-long 1 (entryOf (columnFor l)) (f .planned),
       most laws (planOf (l .plan)) (l .numbers) (f .small) (f .few),
     )
 
 pub sheet-most : (ls : List Listed) → ((k : ℕ) → k < length ls → Fine (getD ls k blankListed)) → length (sheetBytes ls) ≤ worstSheet ls
-unfolding sheetBytes worstSheet
-sheet-most ls fine = omega (arith, length-append (joined entryBytes ls) (joined bodyOf ls), columns-most ls fine)
+unfolding worstSheet
+sheet-most ls fine = omega (arith, ap length (sheet-is ls), length-append (joined entryLaid ls) (joined bodyOf ls), columns-most ls fine)
 
 -- orders that hold, whose plans are judged and whose lists are of their kinds, are written where work and output are long enough
 pub sheet-written : (orders : List Order) (numbers : List ℕ) (work room : ℕ) → Below numberLimit numbers → ordersHold orders numbers ≡ true
     → inTurn listJudged 0 (listedBy orders numbers) ≡ passed → all listRises (listedBy orders numbers) ≡ true
     → 7 * largest (map (λ (c : Listed). length (c .numbers)) (listedBy orders numbers)) ≤ work
     → worstSheet (listedBy orders numbers) ≤ mostBytes → worstSheet (listedBy orders numbers) ≤ room
-    → (writeSheet orders numbers work room ≡ given (sheetBytes (listedBy orders numbers))) × (length (sheetBytes (listedBy orders numbers)) ≤ worstSheet (listedBy orders numbers))
+    → (writeSheet orders numbers work room ≡ given (sheetBytes (listedBy orders numbers)))
+    × (length (sheetBytes (listedBy orders numbers)) ≤ worstSheet (listedBy orders numbers))
 unfolding ordersHold writeSheet writeListed
 sheet-written orders numbers work room small held judged rise enough short fits =
     let ls = listedBy orders numbers in
@@ -96,4 +101,6 @@ sheet-written orders numbers work room small held judged rise enough short fits 
         → 7 * largest (map (λ (c : Listed). length (c .numbers)) ls) ≤ work → length (sheetBytes ls) ≤ mostBytes → length (sheetBytes ls) ≤ room
         → need (ordersHold orders numbers) 11 (writeListed ls work room) ≡ given (sheetBytes ls)
     written ls work room held judged rise enough short fits =
-        rw (held, judged, rise, le-leb (7 * largest (map (λ (c : Listed). length (c .numbers)) ls)) work enough, le-leb (length (sheetBytes ls)) mostBytes short, le-leb (length (sheetBytes ls)) room fits)
+        let most = largest (map (λ (c : Listed). length (c .numbers)) ls) in
+        let size = length (sheetBytes ls) in
+        rw (held, judged, rise, le-leb (7 * most) work enough, le-leb size mostBytes short, le-leb size room fits)

@@ -1,5 +1,5 @@
 -- Orders taken apart into slices, and what a pass over their columns lays down.
-use Prim.Native.Nat.{ℕ, _*_, _≤_, _<_}
+use Prim.Native.Nat.{ℕ, _+_, _*_, _≤_, _<_}
 use mathlib.Core.Path.{_≡_}
 use mathlib.Core.Bool.{Bool, _&&_}
 use mathlib.Core.List.{List, []}
@@ -11,7 +11,8 @@ use Rattle.meaning.specs.Limits.{mostColumns, mostNumbers, mostBytes, planBytes
 use Rattle.meaning.specs.Lists.{sum}
 use Rattle.meaning.specs.Operations.{Order, listedBy, ordersHold, ordersOf}
 use Rattle.meaning.specs.Plan.{judgePlan, planUsed}
-use Rattle.meaning.specs.Sheet.{Listed, ofKind}
+use Rattle.meaning.specs.Sheet.{Listed, ofKind, bodyOf, columnFor, entryOf, entryBytes}
+use Rattle.meaning.specs.declared.Offset.{Offset}
 
 -- the columns that the slices make
 abbrev pub columnsBy : List ℕ → List ℕ → List ℕ → List ℕ → List Listed
@@ -72,3 +73,20 @@ pub record Ordered (kinds plans counts numbers : List ℕ) : Type 0 where
 pub record Laid (bytes o o′ : List ℕ) (r : ℕ) : Type 0 where
   pub told : r ≤ mostBytes → (r ≡ length bytes) × (o′ ≡ sets o 0 bytes)
   pub over : mostBytes < r → mostBytes < length bytes
+
+-- a list of n numbers under a plan of 15 bytes, with work for it, an entry's slot and a body's offset
+pub record Room (plan : List ℕ) (work n slot at : ℕ) : Type 0 where
+  pub planned : length plan ≡ planBytes
+  pub few : n ≤ mostNumbers
+  pub scratch : 7 * n ≤ work
+  pub low : slot ≤ mostBytes
+  pub below : at ≤ mostBytes
+
+-- a column's entry as it is laid down
+abbrev pub entryLaid : Listed → List ℕ
+entryLaid l = entryBytes 1 (entryOf (columnFor l))
+
+-- a column's body laid at an offset and its entry in a slot, as far as they lie within the output; where the body ends past 65,536 no more is said
+pub record ColumnPut (l : Listed) (slot at : ℕ) (o o′ : List ℕ) (r : Offset) : Type 0 where
+  pub ends : r .byte ≡ at + length (bodyOf l)
+  pub laid : r .byte ≤ mostBytes → o′ ≡ sets (sets o at (bodyOf l)) slot (entryLaid l)

@@ -1,10 +1,10 @@
 // Sheets written: orders as slices of kinds, plans and counts, and one slice with all lists joined.
 // The pass that lays a sheet down runs twice: over a byte of its own, which tells the size, and over the output once that is known to fit.
-use crate::orders::judge_orders;
-use crate::orders::largest_of;
-use crate::orders::lists_rise;
-use crate::orders::orders_hold;
 use crate::sheets::put_sheet;
+use crate::slices::judge_orders;
+use crate::slices::largest_of;
+use crate::slices::lists_rise;
+use crate::slices::orders_hold;
 use meaning::BAD_ORDERS;
 use meaning::FALLS;
 use meaning::Judged;
@@ -18,9 +18,9 @@ ghost use Rattle.meaning.specs.Answer.{amount, filled};
 ghost use Rattle.meaning.specs.Operations.{writeApart};
 ghost use Rattle.meaning.specs.Says.{sizedSays};
 
-mod orders;
 mod plans;
 mod sheets;
+mod slices;
 
 // Writes a sheet at the start of an output, with work for 7 times the largest list. A refusal leaves the output as it was.
 pub fn write(

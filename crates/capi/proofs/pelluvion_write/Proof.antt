@@ -26,7 +26,8 @@ same-length-2 c = search needs
 
 returns : tie.Need-returns
 returns c =
-    fills-given _ _ _ (c .before .before .before .before .before .before .before .write .ensures .1) _ (ap sizedSays (sym (c .before .written .given .1)) ∙ c .before .before .before .before .before .before .before .write .ensures .0)
+    let asked : tie.After-write = search in
+    fills-given _ _ _ (asked .write .ensures .1) _ (ap sizedSays (sym (c .before .written .given .1)) ∙ asked .write .ensures .0)
 
 same-length-3 : tie.Need-same-length-3
 same-length-3 c = search needs
@@ -36,7 +37,9 @@ same-length-4 c = search needs
 
 returns-2 : tie.Need-returns-2
 returns-2 c =
-    fills-refused _ _ _ (c .before .before .before .before .before .before .before .before .write .ensures .1) _ _ (ap sizedSays (sym (c .before .before .written2 .given .1)) ∙ c .before .before .before .before .before .before .before .before .write .ensures .0) (c .wide .ensures .0)
+    let asked : tie.After-write = search in
+    fills-refused _ _ _ (asked .write .ensures .1) _ _
+    (ap sizedSays (sym (c .before .before .written2 .given .1)) ∙ asked .write .ensures .0) (c .wide .ensures .0)
 
 pub pelluvion-write-spec : {M : Type 1} → statement M
 pelluvion-write-spec =

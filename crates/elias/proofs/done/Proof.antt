@@ -6,29 +6,17 @@ use Rattle.elias.proofs.Seen.{seen-none, seen-more, seen-done}
 use Rattle.elias.proofs.done.Statement.{statement}
 use Rattle.elias.proofs.done.Tie as tie
 
-mul-bits : tie.Need-mul-bits
-mul-bits c = search needs
-
 returns : tie.Need-returns
 returns c =
     let start : tie.Start = search in
     let a = start .args in
     seen-none (a .body .now) (a .at) (omega (arith, bits-left (a .at .bit .index) (a .body .now)))
 
-sub-if2 : tie.Need-sub-if2
-sub-if2 c = search needs
-
 returns-2 : tie.Need-returns-2
 returns-2 c =
     let start : tie.Start = search in
     let a = start .args in
     seen-more (a .body .now) (a .at) (omega (arith, bits-left (a .at .bit .index) (a .body .now)))
-
-peek-requires : tie.Need-peek-requires
-peek-requires c κs = search needs
-
-top-requires : tie.Need-top-requires
-top-requires c κs = search needs
 
 returns-3 : tie.Need-returns-3
 returns-3 c =
@@ -40,4 +28,13 @@ returns-3 c =
     (omega (arith, bits-left (a .at .bit .index) (a .body .now))) (c .top .ensures)
 
 pub done-spec : {M : Type 1} → statement M
-done-spec = tie.close (tie.spec mul-bits returns sub-if2 returns-2 peek-requires top-requires returns-3)
+done-spec =
+    tie.close
+    (tie.spec
+    (λ c. search needs)  -- mul-bits
+    returns
+    (λ c. search needs)  -- sub-if2
+    returns-2
+    (λ c κs. search needs)  -- peek-requires
+    (λ c κs. search needs)  -- top-requires
+    returns-3)

@@ -24,9 +24,9 @@ sub-numbers c = omega (arith, there (c .before))
 cast-numbers : tie.Need-cast-numbers
 cast-numbers c = omega (arith, there (c .before))
 
-add-from-bit : tie.Need-add-from-bit
+add-index : tie.Need-add-index
 unfolding start-of
-add-from-bit c = omega (arith, there (c .before))
+add-index c = let arm : tie.After-w = search in omega (arith, there arm)
 
 returns : tie.Need-returns
 returns c =
@@ -58,7 +58,7 @@ unit-spec =
     sub-numbers
     cast-numbers
     (λ c. search needs)  -- array-write-numbers
-    add-from-bit
+    add-index
     (λ c κs. search needs)  -- from-bit-requires
     (λ c. search needs)  -- enum-known-w-2
     returns

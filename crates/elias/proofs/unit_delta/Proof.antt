@@ -4,12 +4,13 @@ use borrow.Author.Needs.{needs}
 use Rattle.elias.proofs.unit_delta.Statement.{statement}
 use Rattle.elias.proofs.unit_delta.Tie as tie
 
-unit-requires : tie.Need-unit-requires
-unit-requires c κs = search needs
-
 returns : tie.Need-returns
 unfolding unitElias
 returns c = c .unit .ensures
 
 pub unit-delta-spec : {M : Type 1} → statement M
-unit-delta-spec = tie.close (tie.spec unit-requires returns)
+unit-delta-spec =
+    tie.close
+    (tie.spec
+    (λ c κs. search needs)  -- unit-requires
+    returns)

@@ -10,24 +10,28 @@ use Rattle.leaves.proofs.wide.Reads as wide-reads
 
 returns : tie.Need-returns
 returns c =
-    let a = c .before .before .before .before .args in
-    rw (c .if1 .taken) (c .before .wide .ensures .0 ∙ sym (number-1 (a .bytes .now) (a .at) (omega arith)))
+    let start : tie.Start = search in
+    let a = start .args in
+    rw (c .if1 .taken) (c .before .wide .ensures .0 ∙ sym (number-1 (a .bytes .now) (a .at .byte) (omega arith)))
 
 returns-2 : tie.Need-returns-2
 returns-2 c =
-    let a = c .before .before .before .before .before .before .before .args in
-    rw (c .if2 .taken) (omega (arith, number-2 (a .bytes .now) (a .at) (omega arith)))
+    let start : tie.Start = search in
+    let a = start .args in
+    rw (c .if2 .taken) (omega (arith, number-2 (a .bytes .now) (a .at .byte) (omega arith)))
 
 returns-3 : tie.Need-returns-3
 returns-3 c =
-    let a = c .before .before .before .before .before .before .before .before .before .before .args in
-    rw (c .if3 .taken) (omega (arith, number-3 (a .bytes .now) (a .at) (omega arith)))
+    let start : tie.Start = search in
+    let a = start .args in
+    rw (c .if3 .taken) (omega (arith, number-3 (a .bytes .now) (a .at .byte) (omega arith)))
 
 returns-4 : tie.Need-returns-4
 returns-4 c =
-    let a = c .before .before .before .before .before .before .before .before .before .before .before .before .args in
+    let start : tie.Start = search in
+    let a = start .args in
     let e : a .len ≡ 4 = omega arith in
-    rw e (omega (arith, number-4 (a .bytes .now) (a .at) (omega arith)))
+    rw e (omega (arith, number-4 (a .bytes .now) (a .at .byte) (omega arith)))
 
 pub number-at-spec : {M : Type 1} → statement M
 number-at-spec =

@@ -11,66 +11,49 @@ use Rattle.fields.proofs.put_fewest.Reads as reads
 use Rattle.fields.proofs.put_fewest.Lts as lts
 use Rattle.leaves.proofs.put.Reads as put-reads
 
--- src/lib.rt:55:18
--- src/lib.rt:55:5
--- src/lib.rt:57:16
--- src/lib.rt:57:9
--- src/lib.rt:57:9
 returns : tie.Need-returns
 returns c =
-    let a = c .before .before .before .before .before .before .args in
-    let f = fewest-1 (a .out .now) (a .at) (a .x) (omega arith) in
-    (f .0, c .before .before .before .put .ensures ∙ f .1)
+    let one : tie.After-put = search in
+    let start : tie.Start = search in
+    let a = start .args in
+    let f = fewest-1 (a .out .now) (a .at .byte) (a .x) (omega arith) in
+    (f .0, one .put .ensures ∙ f .1)
 
--- src/lib.rt:59:14
--- src/lib.rt:59:22
--- src/lib.rt:59:5
--- src/lib.rt:61:16
--- src/lib.rt:61:9
--- src/lib.rt:61:9
 returns-2 : tie.Need-returns-2
 returns-2 c =
-    let a = c .before .before .before .before .before .before .before .before .before .before .before .args in
-    let f = fewest-2 (a .out .now) (a .at) (a .x) (omega arith) (omega arith) in (
-      f .0,
-      c .before .before .before .put2 .ensures ∙ ap (λ (l : List ℕ). set l (a .at + 1) (a .x / 256 % 256)) (c .before .before .before .before .before .before .before .before .put .ensures) ∙ f .1,
-    )
+    let two : tie.After-put2 = search in
+    let one : tie.After-put = search in
+    let start : tie.Start = search in
+    let a = start .args in
+    let f = fewest-2 (a .out .now) (a .at .byte) (a .x) (omega arith) (omega arith) in
+    let laid2 = two .put2 .ensures ∙ ap (λ (l : List ℕ). set l (a .at .byte + 1) (a .x / 256 % 256)) (one .put .ensures) in
+    (f .0, laid2 ∙ f .1)
 
--- src/lib.rt:63:14
--- src/lib.rt:63:22
--- src/lib.rt:63:5
--- src/lib.rt:65:16
--- src/lib.rt:65:9
--- src/lib.rt:65:9
 returns-3 : tie.Need-returns-3
 returns-3 c =
-    let a = c .before .before .before .before .before .before .before .before .before .before .before .before .before .before .before .before .args in
-    let f = fewest-3 (a .out .now) (a .at) (a .x) (omega arith) (omega arith) in (
-      f .0,
-      c .before .before .before .put3 .ensures
-          ∙ ap (λ (l : List ℕ). set l (a .at + 2) (a .x / 65536 % 256))
-          (c .before .before .before .before .before .before .before .before .put2 .ensures ∙ ap (λ (l : List ℕ). set l (a .at + 1) (a .x / 256 % 256)) (c .before .before .before .before .before .before .before .before .before .before .before .before .before .put .ensures))
-          ∙ f .1,
-    )
+    let three : tie.After-put3 = search in
+    let two : tie.After-put2 = search in
+    let one : tie.After-put = search in
+    let start : tie.Start = search in
+    let a = start .args in
+    let f = fewest-3 (a .out .now) (a .at .byte) (a .x) (omega arith) (omega arith) in
+    let laid2 = two .put2 .ensures ∙ ap (λ (l : List ℕ). set l (a .at .byte + 1) (a .x / 256 % 256)) (one .put .ensures) in
+    let laid3 = three .put3 .ensures ∙ ap (λ (l : List ℕ). set l (a .at .byte + 2) (a .x / 65536 % 256)) laid2 in
+    (f .0, laid3 ∙ f .1)
 
--- src/lib.rt:67:14
--- src/lib.rt:67:22
--- src/lib.rt:67:5
--- src/lib.rt:68:5
--- src/lib.rt:51:1
--- src/lib.rt:51:1
 returns-4 : tie.Need-returns-4
 returns-4 c =
-    let a = c .before .before .before .before .before .before .before .before .before .before .before .before .before .before .before .before .before .before .before .before .args in
-    let f = fewest-4 (a .out .now) (a .at) (a .x) (omega arith) in (
-      f .0,
-      c .before .before .put4 .ensures
-          ∙ ap (λ (l : List ℕ). set l (a .at + 3) (a .x / 16777216 % 256))
-          (c .before .before .before .before .before .before .before .put3 .ensures
-          ∙ ap (λ (l : List ℕ). set l (a .at + 2) (a .x / 65536 % 256))
-          (c .before .before .before .before .before .before .before .before .before .before .before .before .put2 .ensures ∙ ap (λ (l : List ℕ). set l (a .at + 1) (a .x / 256 % 256)) (c .before .before .before .before .before .before .before .before .before .before .before .before .before .before .before .before .before .put .ensures)))
-          ∙ f .1,
-    )
+    let four : tie.After-put4 = search in
+    let three : tie.After-put3 = search in
+    let two : tie.After-put2 = search in
+    let one : tie.After-put = search in
+    let start : tie.Start = search in
+    let a = start .args in
+    let f = fewest-4 (a .out .now) (a .at .byte) (a .x) (omega arith) in
+    let laid2 = two .put2 .ensures ∙ ap (λ (l : List ℕ). set l (a .at .byte + 1) (a .x / 256 % 256)) (one .put .ensures) in
+    let laid3 = three .put3 .ensures ∙ ap (λ (l : List ℕ). set l (a .at .byte + 2) (a .x / 65536 % 256)) laid2 in
+    let laid4 = four .put4 .ensures ∙ ap (λ (l : List ℕ). set l (a .at .byte + 3) (a .x / 16777216 % 256)) laid3 in
+    (f .0, laid4 ∙ f .1)
 
 pub put-fewest-spec : {M : Type 1} → statement M
 put-fewest-spec =
@@ -78,24 +61,21 @@ put-fewest-spec =
     (tie.spec
     (λ c. search needs)  -- cast-put
     (λ c κs. search needs)  -- put-requires
-    (λ c. search needs)  -- add-result
+    (λ c. search needs)  -- the offset after it
     (λ c. search needs)  -- same-length
     returns
-    (λ c. search needs)  -- add-put
     (λ c. search needs)  -- cast-put-2
     (λ c κs. search needs)  -- put-requires-2
-    (λ c. search needs)  -- add-result-2
+    (λ c. search needs)  -- the offset after it
     (λ c. search needs)  -- same-length-2
     returns-2
-    (λ c. search needs)  -- add-put-2
     (λ c. search needs)  -- cast-put-3
     (λ c κs. search needs)  -- put-requires-3
-    (λ c. search needs)  -- add-result-3
+    (λ c. search needs)  -- the offset after it
     (λ c. search needs)  -- same-length-3
     returns-3
-    (λ c. search needs)  -- add-put-3
     (λ c. search needs)  -- cast-put-4
     (λ c κs. search needs)  -- put-requires-4
-    (λ c. search needs)  -- add-result-4
+    (λ c. search needs)  -- the offset after it
     (λ c. search needs)  -- same-length-4
     returns-4)

@@ -10,28 +10,18 @@ use Rattle.fields.proofs.put_word.Reads as reads
 use Rattle.fields.proofs.put_word.Lts as lts
 use Rattle.leaves.proofs.put.Reads as put-reads
 
--- src/lib.rt:76:18
--- src/lib.rt:76:5
--- src/lib.rt:77:14
--- src/lib.rt:77:22
--- src/lib.rt:77:5
--- src/lib.rt:78:14
--- src/lib.rt:78:22
--- src/lib.rt:78:5
--- src/lib.rt:79:14
--- src/lib.rt:79:22
--- src/lib.rt:79:5
--- src/lib.rt:72:1
--- src/lib.rt:72:1
 returns : tie.Need-returns
 returns c =
-    let a = c .before .before .before .before .before .before .before .before .before .before .before .before .before .before .before .before .before .args in
-    c .before .before .put4 .ensures
-    ∙ ap (λ (l : List ℕ). set l (a .at + 3) (a .x / 16777216 % 256))
-    (c .before .before .before .before .before .before .put3 .ensures
-    ∙ ap (λ (l : List ℕ). set l (a .at + 2) (a .x / 65536 % 256))
-    (c .before .before .before .before .before .before .before .before .before .before .put2 .ensures ∙ ap (λ (l : List ℕ). set l (a .at + 1) (a .x / 256 % 256)) (c .before .before .before .before .before .before .before .before .before .before .before .before .before .before .put .ensures)))
-    ∙ word-put (a .out .now) (a .at) (a .x)
+    let four : tie.After-put4 = search in
+    let three : tie.After-put3 = search in
+    let two : tie.After-put2 = search in
+    let one : tie.After-put = search in
+    let start : tie.Start = search in
+    let a = start .args in
+    let laid2 = two .put2 .ensures ∙ ap (λ (l : List ℕ). set l (a .at .byte + 1) (a .x / 256 % 256)) (one .put .ensures) in
+    let laid3 = three .put3 .ensures ∙ ap (λ (l : List ℕ). set l (a .at .byte + 2) (a .x / 65536 % 256)) laid2 in
+    let laid4 = four .put4 .ensures ∙ ap (λ (l : List ℕ). set l (a .at .byte + 3) (a .x / 16777216 % 256)) laid3 in
+    laid4 ∙ word-put (a .out .now) (a .at .byte) (a .x)
 
 pub put-word-spec : {M : Type 1} → statement M
 put-word-spec =
@@ -39,13 +29,13 @@ put-word-spec =
     (tie.spec
     (λ c. search needs)  -- cast-put
     (λ c κs. search needs)  -- put-requires
-    (λ c. search needs)  -- add-put
+    (λ c. search needs)  -- its offset
     (λ c. search needs)  -- cast-put-2
     (λ c κs. search needs)  -- put-requires-2
-    (λ c. search needs)  -- add-put-2
+    (λ c. search needs)  -- its offset
     (λ c. search needs)  -- cast-put-3
     (λ c κs. search needs)  -- put-requires-3
-    (λ c. search needs)  -- add-put-3
+    (λ c. search needs)  -- its offset
     (λ c. search needs)  -- cast-put-4
     (λ c κs. search needs)  -- put-requires-4
     (λ c. search needs)  -- same-length

@@ -10,9 +10,6 @@ use Rattle.g8iu.proofs.is_allowed.Tie as tie
 sub-count : tie.Need-sub-count
 sub-count c = ones-le 8 (c .args .control) (omega arith)
 
-cast-count : tie.Need-cast-count
-cast-count c = search needs
-
 returns : tie.Need-returns
 returns c = bars-none (omega arith) _ refl (c .if1 .taken)
 
@@ -21,12 +18,6 @@ returns-2 c = let start : tie.Start = search in bars-beyond (omega arith) (start
 
 returns-3 : tie.Need-returns-3
 returns-3 c = let start : tie.Start = search in allows-last (omega arith) (start .args .left) refl (omega arith) (omega arith) (c .if3 .taken)
-
-wide-requires : tie.Need-wide-requires
-wide-requires c κs = search needs
-
-sub-result : tie.Need-sub-result
-sub-result c = search needs
 
 returns-4 : tie.Need-returns-4
 returns-4 c =
@@ -37,4 +28,12 @@ returns-4 c =
 pub is-allowed-spec : {M : Type 1} → statement M
 is-allowed-spec =
     tie.close
-    (tie.spec sub-count cast-count returns returns-2 returns-3 wide-requires sub-result returns-4)
+    (tie.spec
+    sub-count
+    (λ c. search needs)  -- cast-count
+    returns
+    returns-2
+    returns-3
+    (λ c κs. search needs)  -- wide-requires
+    (λ c. search needs)  -- sub-result
+    returns-4)

@@ -10,7 +10,7 @@ use Rattle.g8iu.proofs.plain_ends.Statement.{statement}
 use Rattle.g8iu.proofs.plain_ends.Tie as tie
 
 -- the block lies within the body
-inside : (c : tie.Else1) → c .before .before .before .args .at + 9 ≤ length (c .before .before .before .args .body .now)
+inside : (c : tie.Else1) → c .before .before .before .args .at .byte + 9 ≤ length (c .before .before .before .args .body .now)
 inside c = leb-true _ _ (sym (c .before .has-block .ensures) ∙ not-false _ (c .if1 .left))
 
 shared-slice-read-wide : tie.Need-shared-slice-read-wide

@@ -27,28 +27,13 @@ loop-holds c =
     let eight : length (start .args .t1) ≡ 8 = search needs in
     used-start (omega arith) (start .pre)
 
-mul-byte-length : tie.Need-mul-byte-length Inv-loop μ-loop
-mul-byte-length c = omega arith
-
-array-read-byte-length : tie.Need-array-read-byte-length Inv-loop μ-loop
-array-read-byte-length c = omega arith
-
 add-used : tie.Need-add-used Inv-loop μ-loop
 add-used c =
     let turn : At tie.In-loop = search in
     omega (arith, used-most (used-turn (turn .before .loop .inv) (turn .loop-test .taken) (c .byte-length .ensures)))
 
-add-i : tie.Need-add-i Inv-loop μ-loop
-add-i c = omega arith
-
-loop-less : tie.Need-loop-less Inv-loop μ-loop
-loop-less c = omega arith
-
 loop-again : tie.Need-loop-again Inv-loop μ-loop
 loop-again c = let turn : At tie.In-loop = search in used-turn (turn .before .loop .inv) (turn .loop-test .taken) (c .byte-length .ensures)
-
-sub-result : tie.Need-sub-result Inv-loop μ-loop
-sub-result c = omega arith
 
 returns-2 : tie.Need-returns-2 Inv-loop μ-loop
 returns-2 c =
@@ -64,13 +49,13 @@ spare-after-spec =
     μ-loop
     returns
     loop-holds
-    mul-byte-length
-    array-read-byte-length
+    (λ c. search needs)  -- mul-byte-length
+    (λ c. search needs)  -- array-read-byte-length
     (λ c κs. search needs)  -- byte-length-requires
     add-used
-    add-i
-    loop-less
+    (λ c. search needs)  -- add-i
+    (λ c. search needs)  -- loop-less
     loop-again
     (λ c κs. search needs)  -- lesser-requires
-    sub-result
+    (λ c. search needs)  -- sub-result
     returns-2)

@@ -10,20 +10,14 @@ use Rattle.g8iu.proofs.take.Tie as tie
 
 abbrev Inv-loop : tie.InvT-loop
 Inv-loop body left at work₀ from room most least first n end next₀ to₀ spare₀ work next to spare =
-    Going body left at work₀ first room end work next to spare
+    Going body left at work₀ first room end work (next .number) to spare
 
 abbrev μ-loop : tie.MeasureT-loop
-μ-loop body left at work₀ from room most least first n end next₀ to₀ spare₀ work next to spare = end - next
+μ-loop body left at work₀ from room most least first n end next₀ to₀ spare₀ work next to spare = end - next .number
 
--- a point of the program: `let turn : At tie.In-loop = search in` finds, by its type, the one that c came by
+-- a point of the program: `let turn : At tie.At-loop = search in` finds, by its type, the one that c came by
 abbrev At : (tie.InvT-loop → tie.MeasureT-loop → Type 0) → Type 0
 At point = point Inv-loop μ-loop
-
-sub-end : tie.Need-sub-end Inv-loop μ-loop
-sub-end c = omega arith
-
-add-end : tie.Need-add-end Inv-loop μ-loop
-add-end c = let start : At tie.Start = search in omega arith
 
 loop-holds : tie.Need-loop-holds Inv-loop μ-loop
 loop-holds c =
@@ -33,73 +27,78 @@ loop-holds c =
     going-start (λ i. known .shared-slice-known .given i .fits) (start .pre) (least .lesser .ensures) (c .lesser2 .ensures)
 
 reached-requires : tie.Need-reached-requires Inv-loop μ-loop
-reached-requires c κs = let turn : At tie.In-loop = search in going-on (turn .before .loop .inv)
+reached-requires c κs = let turn : At tie.At-loop = search in going-on (turn .loop .inv)
 
 same-length : tie.Need-same-length Inv-loop μ-loop
-same-length c = let turn : At tie.In-loop = search in going-long (turn .before .loop .inv)
+same-length c = let turn : At tie.At-loop = search in going-long (turn .loop .inv)
 
 returns : tie.Need-returns Inv-loop μ-loop
-returns c = let turn : At tie.In-loop = search in going-end (turn .before .loop .inv) (c .reached .ensures)
+returns c = let turn : At tie.At-loop = search in going-end (turn .loop .inv) (c .reached .ensures)
 
 take-ends-requires : tie.Need-take-ends-requires Inv-loop μ-loop
 take-ends-requires c κs =
-    let some : At tie.Else1 = search in
+    let some : At tie.Else2 = search in
     let found : At tie.After-plain-ends = search in
-    let turn : At tie.In-loop = search in
-    going-asks (turn .before .loop .inv) (turn .loop-test .taken) (found .plain-ends .ensures (some .if1 .left))
+    let more : At tie.Then1 = search in
+    let turn : At tie.At-loop = search in
+    going-asks (turn .loop .inv) (more .if1 .taken) (found .plain-ends .ensures (some .if2 .left))
 
 reached-requires-2 : tie.Need-reached-requires-2 Inv-loop μ-loop
-reached-requires-2 c κs = let turn : At tie.In-loop = search in going-on (turn .before .loop .inv)
+reached-requires-2 c κs = let turn : At tie.At-loop = search in going-on (turn .loop .inv)
 
 same-length-2 : tie.Need-same-length-2 Inv-loop μ-loop
 same-length-2 c =
     let stored : At tie.After-take-ends = search in
-    let turn : At tie.In-loop = search in
-    stored .take-ends .kept .1 .1 .1 .1 .1 .0 ∙ going-long (turn .before .loop .inv)
+    let turn : At tie.At-loop = search in
+    stored .take-ends .kept .1 .1 .1 .1 .1 .0 ∙ going-long (turn .loop .inv)
 
 returns-2 : tie.Need-returns-2 Inv-loop μ-loop
 returns-2 c =
-    let none : At tie.Then2 = search in
+    let none : At tie.Then3 = search in
     let stored : At tie.After-take-ends = search in
-    let some : At tie.Else1 = search in
+    let some : At tie.Else2 = search in
     let found : At tie.After-plain-ends = search in
-    let turn : At tie.In-loop = search in
-    let plain = found .plain-ends .ensures (some .if1 .left) in
-    going-end (going-fault (turn .before .loop .inv) (turn .loop-test .taken) plain (stored .take-ends .ensures) (none .if2 .taken)) (c .reached2 .ensures)
+    let more : At tie.Then1 = search in
+    let turn : At tie.At-loop = search in
+    let plain = found .plain-ends .ensures (some .if2 .left) in
+    going-end (going-fault (turn .loop .inv) (more .if1 .taken) plain (stored .take-ends .ensures) (none .if3 .taken)) (c .reached2 .ensures)
 
 add-to : tie.Need-add-to Inv-loop μ-loop
 add-to c =
-    let some : At tie.Else1 = search in
+    let some : At tie.Else2 = search in
     let found : At tie.After-plain-ends = search in
-    omega (arith, found .plain-ends .ensures (some .if1 .left) .inside)
+    omega (arith, found .plain-ends .ensures (some .if2 .left) .inside)
 
 cast-spare : tie.Need-cast-spare Inv-loop μ-loop
 cast-spare c = let found : At tie.After-plain-ends = search in omega (arith, leading-le 32 (found .plain-ends .result))
 
 sub-spare : tie.Need-sub-spare Inv-loop μ-loop
 sub-spare c =
-    let some : At tie.Else1 = search in
+    let some : At tie.Else2 = search in
     let found : At tie.After-plain-ends = search in
-    let turn : At tie.In-loop = search in
-    going-spare (turn .before .loop .inv) (turn .loop-test .taken) (found .plain-ends .ensures (some .if1 .left))
+    let more : At tie.Then1 = search in
+    let turn : At tie.At-loop = search in
+    going-spare (turn .loop .inv) (more .if1 .taken) (found .plain-ends .ensures (some .if2 .left))
 
 loop-less : tie.Need-loop-less Inv-loop μ-loop
 loop-less c =
     let stored : At tie.After-take-ends = search in
-    let some : At tie.Else1 = search in
+    let some : At tie.Else2 = search in
     let found : At tie.After-plain-ends = search in
-    let turn : At tie.In-loop = search in
-    let plain = found .plain-ends .ensures (some .if1 .left) in
-    going-less (turn .before .loop .inv) (turn .loop-test .taken) plain (stored .take-ends .ensures) (c .if2 .left)
+    let more : At tie.Then1 = search in
+    let turn : At tie.At-loop = search in
+    let plain = found .plain-ends .ensures (some .if2 .left) in
+    going-less (turn .loop .inv) (more .if1 .taken) plain (stored .take-ends .ensures) (c .if3 .left)
 
 loop-again : tie.Need-loop-again Inv-loop μ-loop
 loop-again c =
     let stored : At tie.After-take-ends = search in
-    let some : At tie.Else1 = search in
+    let some : At tie.Else2 = search in
     let found : At tie.After-plain-ends = search in
-    let turn : At tie.In-loop = search in
-    let plain = found .plain-ends .ensures (some .if1 .left) in
-    going-turn (turn .before .loop .inv) (turn .loop-test .taken) plain (stored .take-ends .ensures) (c .if2 .left)
+    let more : At tie.Then1 = search in
+    let turn : At tie.At-loop = search in
+    let plain = found .plain-ends .ensures (some .if2 .left) in
+    going-turn (turn .loop .inv) (more .if1 .taken) plain (stored .take-ends .ensures) (c .if3 .left)
 
 reached-requires-3 : tie.Need-reached-requires-3 Inv-loop μ-loop
 reached-requires-3 c κs = let past : At tie.At-loop = search in going-on (past .loop .inv)
@@ -118,8 +117,8 @@ take-spec =
     μ-loop
     (λ c κs. search needs)  -- lesser-requires
     (λ c κs. search needs)  -- lesser-requires-2
-    sub-end
-    add-end
+    (λ c. search needs)  -- sub-end
+    (λ c. search needs)  -- add-end
     loop-holds
     (λ c κs. search needs)  -- plain-ends-requires
     reached-requires

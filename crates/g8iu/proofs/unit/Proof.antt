@@ -64,10 +64,6 @@ returns-3 c =
     let good : tie.Else2 = search in
     unit-refused _ _ _ (unit-fault (standing good) (stored .take-ends .ensures) (none .if3 .taken)) (c .refusal3 .ensures)
 
-add-from-byte : tie.Need-add-from-byte
-unfolding start-of
-add-from-byte c = let good : tie.Else2 = search in omega (arith, standing good .inside)
-
 returns-4 : tie.Need-returns-4
 unfolding start-of
 returns-4 c =
@@ -77,6 +73,7 @@ returns-4 c =
     rw (c .from-byte .ensures) (unit-next (standing good) (stored .take-ends .ensures) (some .if3 .left))
 
 pub unit-spec : {M : Type 1} → statement M
+unfolding start-of
 unit-spec =
     tie.close
     (tie.spec
@@ -93,6 +90,6 @@ unit-spec =
     take-ends-requires
     (λ c κs. search needs)  -- refusal-requires-3
     returns-3
-    add-from-byte
+    (λ c. let good : tie.Else2 = search in omega (arith, standing good .inside))  -- the next offset
     (λ c κs. search needs)  -- from-byte-requires
     returns-4)

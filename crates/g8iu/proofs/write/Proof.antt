@@ -2,48 +2,53 @@
 use Prim.Native.Nat.{_-_}
 use mathlib.Core.Path.{refl}
 use native.Mathlib.Omega.{arith}
-use Rattle.g8iu.proofs.Writes.{WriteSo, write-turn, write-end}
+use borrow.Author.Needs.{needs}
+use Rattle.g8iu.proofs.Writes.{WriteSo, write-start, write-asks, write-less, write-turn, write-end}
 use Rattle.g8iu.proofs.write.Statement.{statement}
 use Rattle.g8iu.proofs.write.Tie as tie
 
 abbrev Inv-loop : tie.InvT-loop
-Inv-loop list n out₀ first end next₀ to₀ out next to = WriteSo list first end to₀ out₀ out to next
+Inv-loop list n out₀ end from at out next to = WriteSo list (from .number) end at out₀ out to (next .number)
 
 abbrev μ-loop : tie.MeasureT-loop
-μ-loop list n out₀ first end next₀ to₀ out next to = end - next
+μ-loop list n out₀ end from at out next to = end - next .number
 
-add-end : tie.Need-add-end Inv-loop μ-loop
-add-end c = omega arith
+-- a point of the program: `let turn : At tie.At-loop = search in` finds, by its type, the one that c came by
+abbrev At : (tie.InvT-loop → tie.MeasureT-loop → Type 0) → Type 0
+At point = point Inv-loop μ-loop
 
 loop-holds : tie.Need-loop-holds Inv-loop μ-loop
-loop-holds c = record { low = omega arith; high = omega arith; room = omega arith; long = refl; ends = refl; rest = refl }
+loop-holds c = let start : At tie.Start = search in write-start (start .pre)
 
 put-block-requires : tie.Need-put-block-requires Inv-loop μ-loop
 put-block-requires c κs =
-    let p = c .before .before .before .before .before .pre in
-    let so = c .before .before .loop .inv in
-    (c .before .loop-test .taken, p .inside, omega (arith, p .short, so .low, so .room, c .before .loop-test .taken))
+    let more : At tie.Then1 = search in
+    let turn : At tie.At-loop = search in
+    write-asks (turn .loop .inv) (more .if1 .taken)
 
 add-to : tie.Need-add-to Inv-loop μ-loop
 add-to c =
-    let p = c .before .before .before .before .before .before .before .before .pre in
-    let so = c .before .before .before .before .before .loop .inv in
-    omega (arith, p .short, so .low, so .room, c .before .before .before .before .loop-test .taken)
+    let more : At tie.Then1 = search in
+    let turn : At tie.At-loop = search in
+    omega (arith, write-asks (turn .loop .inv) (more .if1 .taken))
 
 loop-less : tie.Need-loop-less Inv-loop μ-loop
 loop-less c =
-    let p = c .before .before .put-block .ensures in
-    omega (arith, p .some, p .within)
+    let put : At tie.After-put-block = search in
+    let turn : At tie.At-loop = search in
+    write-less (turn .loop .inv) (put .put-block .ensures)
 
 loop-again : tie.Need-loop-again Inv-loop μ-loop
 loop-again c =
-    write-turn _ _ _ _ (c .before .before .before .before .before .before .before .before .pre .inside) _ _ _ _ (c .before .before .before .before .before .loop .inv) _ _ (c .before .before .put-block .ensures)
+    let put : At tie.After-put-block = search in
+    let turn : At tie.At-loop = search in
+    write-turn (turn .loop .inv) (put .put-block .ensures)
 
 same-length : tie.Need-same-length Inv-loop μ-loop
-same-length c = c .before .loop .inv .long
+same-length c = let past : At tie.At-loop = search in past .loop .inv .long
 
 returns : tie.Need-returns Inv-loop μ-loop
-returns c = write-end _ _ _ _ (c .before .before .before .before .pre .inside) _ _ _ _ (c .before .loop .inv) _ refl (c .loop-test .left)
+returns c = let past : At tie.At-loop = search in write-end (past .loop .inv) _ refl (c .if1 .left)
 
 pub write-spec : {M : Type 1} → statement M
 write-spec =
@@ -51,7 +56,7 @@ write-spec =
     (tie.spec
     Inv-loop
     μ-loop
-    add-end
+    (λ c. search needs)  -- add-end
     loop-holds
     put-block-requires
     add-to

@@ -4,12 +4,13 @@ use borrow.Author.Needs.{needs}
 use Rattle.groups.proofs.unit_groups.Statement.{statement}
 use Rattle.groups.proofs.unit_groups.Tie as tie
 
-group-at-requires : tie.Need-group-at-requires
-group-at-requires c κs = search needs
-
 returns : tie.Need-returns
 unfolding unitGroups
 returns c = c .group-at .ensures
 
 pub unit-groups-spec : {M : Type 1} → statement M
-unit-groups-spec = tie.close (tie.spec group-at-requires returns)
+unit-groups-spec =
+    tie.close
+    (tie.spec
+    (λ c κs. search needs)  -- group-at-requires
+    returns)

@@ -4,12 +4,13 @@ use borrow.Author.Needs.{needs}
 use Rattle.groups.proofs.unit_stream.Statement.{statement}
 use Rattle.groups.proofs.unit_stream.Tie as tie
 
-group-at-requires : tie.Need-group-at-requires
-group-at-requires c κs = search needs
-
 returns : tie.Need-returns
 unfolding unitStream
 returns c = c .group-at .ensures
 
 pub unit-stream-spec : {M : Type 1} → statement M
-unit-stream-spec = tie.close (tie.spec group-at-requires returns)
+unit-stream-spec =
+    tie.close
+    (tie.spec
+    (λ c κs. search needs)  -- group-at-requires
+    returns)

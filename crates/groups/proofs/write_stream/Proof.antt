@@ -6,9 +6,6 @@ use borrow.Author.Needs.{needs}
 use Rattle.groups.proofs.write_stream.Statement.{statement}
 use Rattle.groups.proofs.write_stream.Tie as tie
 
-put-controls-requires : tie.Need-put-controls-requires
-put-controls-requires c κs = search needs
-
 put-fields-requires : tie.Need-put-fields-requires
 put-fields-requires c κs =
     let controls : tie.After-put-controls = search in
@@ -16,9 +13,6 @@ put-fields-requires c κs =
     let a = start .args in
     let bound = controls-bound (a .list .now) (a .from .number) (a .n) (start .pre .inside) in
     (start .pre .inside, omega (arith, controls .put-controls .ensures, start .pre .short))
-
-same-length : tie.Need-same-length
-same-length c = search needs
 
 returns : tie.Need-returns
 unfolding writeStream
@@ -28,4 +22,10 @@ returns c =
     put-after (controls .put-controls .ensures) (fields .put-fields .ensures)
 
 pub write-stream-spec : {M : Type 1} → statement M
-write-stream-spec = tie.close (tie.spec put-controls-requires put-fields-requires same-length returns)
+write-stream-spec =
+    tie.close
+    (tie.spec
+    (λ c κs. search needs)  -- put-controls-requires
+    put-fields-requires
+    (λ c. search needs)  -- same-length
+    returns)

@@ -20,7 +20,7 @@ returns c = search needs
 
 -- src/lib.rt:17:1
 returns-2 : tie.Need-returns-2
-returns-2 c = sym (set-out (c .before .args .out .now) (c .before .args .at) (c .before .args .b) (c .if1 .left))
+returns-2 c = sym (set-out (c .before .args .out .now) (c .before .args .at .byte) (c .before .args .b) (c .if1 .left))
 
 pub put-spec : {M : Type 1} → statement M
 put-spec = tie.close (tie.spec slice-write-out same-length returns returns-2)

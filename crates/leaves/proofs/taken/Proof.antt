@@ -1,5 +1,5 @@
 -- Where nothing was taken the position stays. Assumes nothing.
-use mathlib.Core.Path.{_≡_, refl}
+use mathlib.Core.Path.{refl}
 use native.Mathlib.Omega.{arith}
 use Rattle.leaves.proofs.taken.Statement.{statement}
 use Rattle.leaves.proofs.taken.Tie as tie

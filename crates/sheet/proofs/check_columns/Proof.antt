@@ -1,73 +1,66 @@
 -- `check_columns` has read the columns below k. Assumes nothing.
-use borrow.Author.Needs.{needs}
 use Prim.Native.Nat.{_-_}
-use mathlib.Core.Path.{_≡_, refl, _∙_}
-use native.Mathlib.Omega.{arith}
-use lib.ListN.{length}
-use Rattle.meaning.specs.Sheet.{columnsOf, readColumn}
-use Rattle.table.proofs.InTurn.{PassedBelow}
+use mathlib.Core.Path.{refl}
+use borrow.Author.Needs.{needs}
 use Rattle.table.proofs.Sounds.{sound-sheet}
-use Rattle.sheet.proofs.Checks.{count-most, bodies-turn, bodies-refuse, bodies-end}
-use Rattle.sheet.proofs.Entered.{readable}
+use Rattle.sheet.proofs.Checks.{Checking, bodies-here, bodies-readable, bodies-turn, bodies-refuse, bodies-end}
 use Rattle.sheet.proofs.check_columns.Statement.{statement}
 use Rattle.sheet.proofs.check_columns.Tie as tie
 
 abbrev Inv-loop : tie.InvT-loop
-Inv-loop sheet work₀ columns k₀ work k =
-    PassedBelow readColumn (columnsOf sheet) k × (length work ≡ length work₀)
+Inv-loop sheet work₀ columns k₀ work k = Checking sheet work₀ columns work k
 
 abbrev μ-loop : tie.MeasureT-loop
-μ-loop sheet work₀ columns k₀ work k =
-    columns - k
+μ-loop sheet work₀ columns k₀ work k = columns - k
+
+-- a point of the program, found by its type
+abbrev At : (tie.InvT-loop → tie.MeasureT-loop → Type 0) → Type 0
+At point = point Inv-loop μ-loop
 
 column-count-requires : tie.Need-column-count-requires Inv-loop μ-loop
-column-count-requires c κs =
-    sound-sheet (c .before .before .args .sheet .now) (c .before .before .pre .sounds) .least
+column-count-requires c κs = let start : At tie.Start = search in sound-sheet (start .args .sheet .now) (start .pre .sounds) .least
 
 loop-holds : tie.Need-loop-holds Inv-loop μ-loop
 loop-holds c =
-    (refl, refl)
+    let start : At tie.Start = search in
+    record { ready = start .pre; counted = c .column-count .ensures .0; long = refl; below = refl }
 
+-- ---- a turn
 entry-at-requires : tie.Need-entry-at-requires Inv-loop μ-loop
 entry-at-requires c κs =
-    record { sounds = c .before .before .before .before .before .pre .sounds; exists = omega arith }
+    let turn : At tie.At-loop = search in
+    bodies-here (turn .loop .inv) (c .loop-test .taken)
 
 read-column-requires : tie.Need-read-column-requires Inv-loop μ-loop
 read-column-requires c κs =
-    let s = c .before .before .before .before .before .before .before in
-    let is = c .before .entry-at .ensures in
-    readable (s .args .sheet .now) (c .before .before .before .loop .k) (c .before .entry-at .result) is (record { sounds = s .pre .sounds; exists = omega arith }) (c .before .before .before .loop .work)
-    (omega (arith, is .count, count-most (s .args .sheet .now) (c .before .before .before .loop .k) (omega arith), s .pre .room, c .before .before .before .loop .inv .1))
-
-enum-known-got : tie.Need-enum-known-got Inv-loop μ-loop
-enum-known-got c = search needs
-
-same-length : tie.Need-same-length Inv-loop μ-loop
-same-length c = search needs
+    let entered : At tie.After-entry-at = search in
+    let tested : At tie.In-loop = search in
+    let turn : At tie.At-loop = search in
+    bodies-readable (turn .loop .inv) (tested .loop-test .taken) (entered .entry-at .ensures)
 
 returns : tie.Need-returns Inv-loop μ-loop
 returns c =
-    bodies-refuse (c .before .before .before .before .before .before .before .before .before .before .before .before .before .args .sheet .now) _ (c .before .before .before .before .before .before .before .before .before .before .column-count .ensures .0) _ (c .before .before .before .before .before .before .before .before .before .loop .inv .0) (c .before .before .before .before .before .before .before .before .loop-test .taken) _ (c .before .before .before .before .before .before .before .entry-at .ensures) _ _ _ (c .before .before .before .before .before .read-column .ensures) _ (c .before .got .given .1)
-
-enum-told : tie.Need-enum-told Inv-loop μ-loop
-enum-told c = search needs
-
-add-k : tie.Need-add-k Inv-loop μ-loop
-add-k c = search needs
-
-loop-less : tie.Need-loop-less Inv-loop μ-loop
-loop-less c = search needs
+    let fault : At tie.After-got = search in
+    let got : At tie.After-read-column = search in
+    let entered : At tie.After-entry-at = search in
+    let tested : At tie.In-loop = search in
+    let turn : At tie.At-loop = search in
+    bodies-refuse (turn .loop .inv) (tested .loop-test .taken) (entered .entry-at .ensures) (got .read-column .ensures) (fault .got .given .1)
 
 loop-again : tie.Need-loop-again Inv-loop μ-loop
 loop-again c =
-    (bodies-turn (c .before .before .before .before .before .before .before .before .before .before .before .before .args .sheet .now) _ (c .before .before .before .before .before .before .before .before .before .column-count .ensures .0) _ (c .before .before .before .before .before .before .before .before .loop .inv .0) (c .before .before .before .before .before .before .before .loop-test .taken) _ (c .before .before .before .before .before .before .entry-at .ensures) _ _ _ (c .before .before .before .before .read-column .ensures) _ (c .enum-told .given .1), c .before .before .before .before .read-column .kept .1 .1 .0 ∙ c .before .before .before .before .before .before .before .before .loop .inv .1)
+    let got : At tie.After-read-column = search in
+    let entered : At tie.After-entry-at = search in
+    let tested : At tie.In-loop = search in
+    let turn : At tie.At-loop = search in
+    bodies-turn (turn .loop .inv) (tested .loop-test .taken) (entered .entry-at .ensures) (got .read-column .ensures) (c .enum-told .given .1)
+    (got .read-column .kept .1 .1 .0)
 
-same-length-2 : tie.Need-same-length-2 Inv-loop μ-loop
-same-length-2 c = search needs
-
+-- ---- after the loop
 returns-2 : tie.Need-returns-2 Inv-loop μ-loop
 returns-2 c =
-    bodies-end (c .before .before .before .before .before .args .sheet .now) _ (c .before .before .column-count .ensures .0) _ (c .before .loop .inv .0) (c .loop-test .left)
+    let turn : At tie.At-loop = search in
+    bodies-end (turn .loop .inv) (c .loop-test .left)
 
 pub check-columns-spec : {M : Type 1} → statement M
 check-columns-spec =
@@ -79,12 +72,12 @@ check-columns-spec =
     loop-holds
     entry-at-requires
     read-column-requires
-    enum-known-got
-    same-length
+    (λ c. search needs)  -- enum-known-got
+    (λ c. search needs)  -- same-length
     returns
-    enum-told
-    add-k
-    loop-less
+    (λ c. search needs)  -- enum-told
+    (λ c. search needs)  -- add-k
+    (λ c. search needs)  -- loop-less
     loop-again
-    same-length-2
+    (λ c. search needs)  -- same-length-2
     returns-2)

@@ -1,100 +1,114 @@
 -- `read` reads into work, and copies what is whole; every refusal leaves the output. Assumes only the laws of the codes.
 use native.Mathlib.Omega.{arith}
-use Rattle.table.proofs.ColumnLaws.{column-here, opened-by, refused-by}
-use Rattle.sheet.proofs.Entered.{count-few, readable}
-use Rattle.sheet.proofs.ReadSheets.{says-none, says-short, says-full, says-fault, copy-room, says-copied}
 use borrow.Author.Needs.{needs}
+use Rattle.table.specs.Entries.{Opened}
+use Rattle.table.proofs.ColumnLaws.{opened-by, refused-by}
+use Rattle.sheet.proofs.Entered.{count-few, readable, opened-here}
+use Rattle.sheet.proofs.ReadSheets.{says-none, says-short, says-full, says-fault, copy-room, says-copied}
 use Rattle.sheet.proofs.read.Statement.{statement}
 use Rattle.sheet.proofs.read.Tie as tie
 
-column-at-requires : tie.Need-column-at-requires
-column-at-requires c κs = search needs
+start-of : tie.After-found2 → tie.Start
+start-of c = search
 
-enum-known-found : tie.Need-enum-known-found
-enum-known-found c = search needs
-
-enum-known-found-2 : tie.Need-enum-known-found-2
-enum-known-found-2 c = search needs
+-- the entry that was asked for
+opened : (c : tie.After-found2) → Opened (start-of c .args .sheet .now) (start-of c .args .column) (c .found2 .given .0 .0)
+unfolding start-of
+opened c = let asked : tie.After-column-at = search in opened-by _ _ _ _ (asked .column-at .ensures) (c .found2 .given .1)
 
 mul-needed : tie.Need-mul-needed
 mul-needed c =
-    let a = c .before .before .before .before .before .before .before .args in
-    let o = opened-by (a .sheet .now) (a .column) _ _ (c .before .before .before .column-at .ensures) (c .before .found2 .given .1) in
-    omega (arith, count-few (a .sheet .now) (a .column) _ (o .entry) (column-here (a .sheet .now) (a .column) _ (o .told)))
+    let arm : tie.After-found2 = search in
+    let o = opened arm in
+    omega (arith, count-few (o .entry) (opened-here o))
 
 returns : tie.Need-returns
+unfolding start-of
 returns c =
-    let a = c .before .before .before .before .before .before .before .before .args in
-    let o = opened-by (a .sheet .now) (a .column) _ _ (c .before .before .before .before .column-at .ensures) (c .before .before .found2 .given .1) in
-    says-short (a .sheet .now) (a .column) (a .work .now) (a .out .now) _ o (c .if1 .taken)
+    let arm : tie.After-found2 = search in
+    let start : tie.Start = search in
+    says-short (opened arm) (start .args .work .now) (start .args .out .now) (c .if1 .taken)
 
 returns-2 : tie.Need-returns-2
+unfolding start-of
 returns-2 c =
-    let a = c .before .before .before .before .before .before .before .before .before .args in
-    let o = opened-by (a .sheet .now) (a .column) _ _ (c .before .before .before .before .before .column-at .ensures) (c .before .before .before .found2 .given .1) in
-    says-full (a .sheet .now) (a .column) (a .work .now) (a .out .now) _ o (c .before .if1 .left) (c .if2 .taken)
+    let enough : tie.Else1 = search in
+    let arm : tie.After-found2 = search in
+    let start : tie.Start = search in
+    says-full (opened arm) (start .args .work .now) (start .args .out .now) (enough .if1 .left) (c .if2 .taken)
 
 read-column-requires : tie.Need-read-column-requires
+unfolding start-of
 read-column-requires c κs =
-    let a = c .before .before .before .before .before .before .before .before .before .before .args in
-    let o = opened-by (a .sheet .now) (a .column) _ _ (c .before .before .before .before .before .before .column-at .ensures) (c .before .before .before .before .found2 .given .1) in
-    readable (a .sheet .now) (a .column) _ (o .entry) (column-here (a .sheet .now) (a .column) _ (o .told)) (a .work .now) (c .before .before .if1 .left)
-
-enum-known-got : tie.Need-enum-known-got
-enum-known-got c = search needs
-
-enum-known-got-2 : tie.Need-enum-known-got-2
-enum-known-got-2 c = search needs
+    let enough : tie.Else1 = search in
+    let arm : tie.After-found2 = search in
+    let o = opened arm in
+    readable (o .entry) (opened-here o) (enough .if1 .left)
 
 copy-list-requires : tie.Need-copy-list-requires
+unfolding start-of
 copy-list-requires c κs =
-    let a = c .before .before .before .before .before .before .before .before .before .before .before .before .before .before .before .before .before .before .args in
-    let o = opened-by (a .sheet .now) (a .column) _ _ (c .before .before .before .before .before .before .before .before .before .before .before .before .before .before .column-at .ensures) (c .before .before .before .before .before .before .before .before .before .before .before .before .found2 .given .1) in
-    copy-room (a .sheet .now) (a .column) (a .work .now) (a .out .now) _ o (c .before .before .before .before .before .before .before .before .before .before .if1 .left) (c .before .before .before .before .before .before .before .before .before .if2 .left) _ _ (c .before .before .before .before .before .before .before .read-column .ensures) (λ i. c .before .before .before .before .before .before .before .before .before .before .before .before .before .before .before .before .before .shared-slice-known .given i .fits) _ (c .before .before .before .got2 .given .1)
+    let whole : tie.After-got2 = search in
+    let got : tie.After-read-column = search in
+    let fits : tie.Else2 = search in
+    let enough : tie.Else1 = search in
+    let arm : tie.After-found2 = search in
+    let known : tie.After-shared-slice-known = search in
+    let start : tie.Start = search in
+    copy-room (opened arm) (start .args .work .now) (start .args .out .now) (enough .if1 .left) (fits .if2 .left) (got .read-column .ensures)
+    (whole .got2 .given .1) (λ i. known .shared-slice-known .given i .fits)
 
 returns-3 : tie.Need-returns-3
 returns-3 c =
-    let a = c .before .before .before .before .before .before .before .args in
-    says-none (a .sheet .now) (a .column) (a .work .now) (a .out .now) _ (refused-by (a .sheet .now) (a .column) _ _ (c .before .before .before .column-at .ensures) (c .before .found .given .1))
-
-same-length : tie.Need-same-length
-same-length c = search needs
+    let arm : tie.After-found = search in
+    let asked : tie.After-column-at = search in
+    let start : tie.Start = search in
+    let a = start .args in
+    says-none (a .sheet .now) (a .column) (a .work .now) (a .out .now) (refused-by _ _ _ _ (asked .column-at .ensures) (arm .found .given .1))
 
 returns-4 : tie.Need-returns-4
+unfolding start-of
 returns-4 c =
-    let a = c .before .before .before .before .before .before .before .before .before .before .before .before .before .before .before .before .args in
-    let o = opened-by (a .sheet .now) (a .column) _ _ (c .before .before .before .before .before .before .before .before .before .before .before .before .column-at .ensures) (c .before .before .before .before .before .before .before .before .before .before .found2 .given .1) in
-    says-fault (a .sheet .now) (a .column) (a .work .now) (a .out .now) _ o (c .before .before .before .before .before .before .before .before .if1 .left) (c .before .before .before .before .before .before .before .if2 .left) _ _ (c .before .before .before .before .before .read-column .ensures) _ (c .before .got .given .1)
-
-same-length-2 : tie.Need-same-length-2
-same-length-2 c = search needs
-
-same-length-3 : tie.Need-same-length-3
-same-length-3 c = search needs
+    let fault : tie.After-got = search in
+    let got : tie.After-read-column = search in
+    let fits : tie.Else2 = search in
+    let enough : tie.Else1 = search in
+    let arm : tie.After-found2 = search in
+    let start : tie.Start = search in
+    says-fault (opened arm) (start .args .work .now) (start .args .out .now) (enough .if1 .left) (fits .if2 .left) (got .read-column .ensures)
+    (fault .got .given .1)
 
 returns-5 : tie.Need-returns-5
+unfolding start-of
 returns-5 c =
-    let a = c .before .before .before .before .before .before .before .before .before .before .before .before .before .before .before .before .before .before .before .before .before .args in
-    let o = opened-by (a .sheet .now) (a .column) _ _ (c .before .before .before .before .before .before .before .before .before .before .before .before .before .before .before .before .before .column-at .ensures) (c .before .before .before .before .before .before .before .before .before .before .before .before .before .before .before .found2 .given .1) in
-    says-copied (a .sheet .now) (a .column) (a .work .now) (a .out .now) _ o (c .before .before .before .before .before .before .before .before .before .before .before .before .before .if1 .left) (c .before .before .before .before .before .before .before .before .before .before .before .before .if2 .left) _ _ (c .before .before .before .before .before .before .before .before .before .before .read-column .ensures) (λ i. c .before .before .before .before .before .before .before .before .before .before .before .before .before .before .before .before .before .before .before .before .shared-slice-known .given i .fits) _ (c .before .before .before .before .before .before .got2 .given .1) _ (c .before .before .copy-list .ensures)
+    let copied : tie.After-copy-list = search in
+    let whole : tie.After-got2 = search in
+    let got : tie.After-read-column = search in
+    let fits : tie.Else2 = search in
+    let enough : tie.Else1 = search in
+    let arm : tie.After-found2 = search in
+    let known : tie.After-shared-slice-known = search in
+    let start : tie.Start = search in
+    says-copied (opened arm) (start .args .work .now) (start .args .out .now) (enough .if1 .left) (fits .if2 .left) (got .read-column .ensures)
+    (whole .got2 .given .1) (λ i. known .shared-slice-known .given i .fits) (copied .copy-list .ensures)
 
 pub read-spec : {M : Type 1} → statement M
 read-spec =
     tie.close
     (tie.spec
-    column-at-requires
-    enum-known-found
-    enum-known-found-2
+    (λ c κs. search needs)  -- column-at-requires
+    (λ c. search needs)  -- enum-known-found
+    (λ c. search needs)  -- enum-known-found-2
     mul-needed
     returns
     returns-2
     read-column-requires
-    enum-known-got
-    enum-known-got-2
+    (λ c. search needs)  -- enum-known-got
+    (λ c. search needs)  -- enum-known-got-2
     copy-list-requires
     returns-3
-    same-length
+    (λ c. search needs)  -- same-length
     returns-4
-    same-length-2
-    same-length-3
+    (λ c. search needs)  -- same-length-2
+    (λ c. search needs)  -- same-length-3
     returns-5)

@@ -1,7 +1,7 @@
 -- `seek_in`: the first j lengths have been passed. Assumes nothing.
 use borrow.Author.Needs.{needs}
-use Prim.Native.Nat.{_+_, _-_, _≤_}
-use mathlib.Core.Path.{_≡_, sym, _∙_}
+use Prim.Native.Nat.{_-_}
+use mathlib.Core.Path.{sym, _∙_}
 use native.Mathlib.Omega.{arith}
 use borrow.Author.Tests.{not-true, not-false}
 use Rattle.stages.proofs.Seekings.{Seeking, seeking-start, seeking-breaks, seeking-here, seeking-past, seeking-end}

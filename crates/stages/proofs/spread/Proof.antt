@@ -3,7 +3,7 @@ use Prim.Native.Nat.{_-_}
 use mathlib.Core.Path.{sym, refl, _∙_}
 use native.Mathlib.Omega.{arith}
 use borrow.Author.Tests.{not-true, not-false}
-use Rattle.stages.proofs.Unrolls.{Spreading, spreading-start, spreading-turn, spreading-stop, fits-so}
+use Rattle.stages.proofs.Unrolls.{Spreading, spreading-start, spreading-turn, spreading-stop}
 use borrow.Author.Needs.{needs}
 use Rattle.stages.proofs.spread.Statement.{statement}
 use Rattle.stages.proofs.spread.Tie as tie

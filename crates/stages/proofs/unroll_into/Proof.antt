@@ -1,5 +1,5 @@
 -- `unroll_into`: all runs are spread, and make all numbers. Assumes nothing.
-use Prim.Native.Nat.{_+_, _*_}
+use Prim.Native.Nat.{_+_}
 use mathlib.Core.Path.{sym, _∙_}
 use borrow.Author.Tests.{not-true, not-false}
 use Rattle.meaning.specs.Places.{part}

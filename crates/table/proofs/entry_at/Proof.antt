@@ -5,35 +5,35 @@ use Rattle.table.proofs.entry_at.Statement.{statement}
 use Rattle.table.proofs.entry_at.Tie as tie
 
 kind-at-requires : tie.Need-kind-at-requires
-kind-at-requires c κs =
-    let a = c .before .args in
-    within (a .sheet .now) (a .column) (c .before .pre)
+kind-at-requires c κs = let from : tie.Start = search in within (from .pre)
 
 plan-start-requires : tie.Need-plan-start-requires
 plan-start-requires c κs =
-    let a = c .before .before .args in
-    omega (arith, within (a .sheet .now) (a .column) (c .before .before .pre) .whole, within (a .sheet .now) (a .column) (c .before .before .pre) .below)
+    let from : tie.Start = search in
+    let there = within (from .pre) in
+    omega (arith, there .whole, there .below)
 
 count-at-requires : tie.Need-count-at-requires
-count-at-requires c κs =
-    let a = c .before .before .before .args in
-    within (a .sheet .now) (a .column) (c .before .before .before .pre)
+count-at-requires c κs = let from : tie.Start = search in within (from .pre)
 
 size-at-requires : tie.Need-size-at-requires
-size-at-requires c κs =
-    let a = c .before .before .before .before .args in
-    within (a .sheet .now) (a .column) (c .before .before .before .before .pre)
+size-at-requires c κs = let from : tie.Start = search in within (from .pre)
 
 body-start-requires : tie.Need-body-start-requires
 body-start-requires c κs =
-    let a = c .before .before .before .before .before .args in
-    let w = within (a .sheet .now) (a .column) (c .before .before .before .before .before .pre) in
-    (w .whole, omega arith)
+    let from : tie.Start = search in
+    let there = within (from .pre) in
+    (there .whole, omega arith)
 
 returns : tie.Need-returns
 returns c =
-    let a = c .before .before .before .before .before .before .args in
-    entry-is (a .sheet .now) (a .column) (c .before .before .before .before .before .before .pre) _ (c .before .before .before .before .kind-at .ensures) (c .before .before .before .plan-start .ensures) (c .before .before .count-at .ensures) (c .before .size-at .ensures .0) (c .body-start .ensures)
+    let sized : tie.After-size-at = search in
+    let counted : tie.After-count-at = search in
+    let planned : tie.After-plan-start = search in
+    let kinded : tie.After-kind-at = search in
+    let from : tie.Start = search in
+    entry-is (from .pre) (kinded .kind-at .ensures) (planned .plan-start .ensures) (counted .count-at .ensures) (sized .size-at .ensures .0)
+    (c .body-start .ensures)
 
 pub entry-at-spec : {M : Type 1} → statement M
 entry-at-spec =

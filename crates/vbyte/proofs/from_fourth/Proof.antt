@@ -51,6 +51,24 @@ pub from-fourth-spec : {M : Type 1} → statement M
 from-fourth-spec =
     tie.close
     (tie.spec
-    returns (λ c. search needs) (λ c κs. search needs) (λ c. search needs) (λ c. search needs) (λ c. search needs) (λ c κs. search needs)
-    returns-2 (λ c. search needs) (λ c. search needs) (λ c. search needs) returns-3 (λ c. search needs) (λ c. search needs)
-    (λ c κs. search needs) returns-4 (λ c. search needs) (λ c. search needs) (λ c. search needs) (λ c κs. search needs) returns-5)
+    returns
+    (λ c. search needs)  -- shared-slice-read-wide
+    (λ c κs. search needs)  -- wide-requires
+    (λ c. search needs)  -- mul-last
+    (λ c. search needs)  -- add-last
+    (λ c. search needs)  -- add-t14
+    (λ c κs. search needs)  -- last-requires
+    returns-2
+    (λ c. search needs)  -- mul-low28
+    (λ c. search needs)  -- add-low28
+    (λ c. search needs)  -- add-if3
+    returns-3
+    (λ c. search needs)  -- add-wide
+    (λ c. search needs)  -- shared-slice-read-wide-2
+    (λ c κs. search needs)  -- wide-requires-2
+    returns-4
+    (λ c. search needs)  -- mul-last-2
+    (λ c. search needs)  -- add-last-2
+    (λ c. search needs)  -- add-t18
+    (λ c κs. search needs)  -- last-requires-2
+    returns-5)

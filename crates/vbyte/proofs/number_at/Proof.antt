@@ -25,4 +25,10 @@ pub number-at-spec : {M : Type 1} → statement M
 number-at-spec =
     tie.close
     (tie.spec
-    returns (λ c. search needs) (λ c. search needs) (λ c κs. search needs) returns-2 (λ c κs. search needs) returns-3)
+    returns
+    (λ c. search needs)  -- add-t6
+    (λ c. search needs)  -- shared-slice-read-wide
+    (λ c κs. search needs)  -- wide-requires
+    returns-2
+    (λ c κs. search needs)  -- from-second-requires
+    returns-3)

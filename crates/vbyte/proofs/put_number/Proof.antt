@@ -38,7 +38,22 @@ pub put-number-spec : {M : Type 1} → statement M
 put-number-spec =
     tie.close
     (tie.spec
-    (λ c. search needs) (λ c κs. search needs) (λ c. search needs) (λ c. search needs) returns (λ c. search needs) (λ c. search needs)
-    (λ c κs. search needs) (λ c. search needs) (λ c. search needs) (λ c κs. search needs) (λ c. search needs) (λ c. search needs) returns-2
-    (λ c. search needs) (λ c. search needs) (λ c. search needs) (λ c κs. search needs) (λ c. search needs) (λ c κs. search needs)
-    (λ c. search needs) returns-3)
+    (λ c. search needs)  -- add-t8
+    (λ c. search needs)  -- cast-put
+    (λ c κs. search needs)  -- put-requires
+    (λ c. search needs)  -- same-length
+    returns
+    (λ c. search needs)  -- add-put
+    (λ c. search needs)  -- cast-put-2
+    (λ c κs. search needs)  -- put-requires-2
+    (λ c. search needs)  -- add-t8-2
+    (λ c. search needs)  -- cast-put-3
+    (λ c κs. search needs)  -- put-requires-3
+    (λ c. search needs)  -- same-length-2
+    returns-2
+    (λ c. search needs)  -- add-put-2
+    (λ c. search needs)  -- cast-put-4
+    (λ c κs. search needs)  -- put-requires-4
+    (λ c κs. search needs)  -- put-from-third-requires
+    (λ c. search needs)  -- same-length-3
+    returns-3)

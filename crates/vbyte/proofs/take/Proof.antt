@@ -9,7 +9,7 @@ use Rattle.vbyte.proofs.take.Tie as tie
 
 abbrev Inv-loop : tie.InvT-loop
 Inv-loop body left at work₀ room first most i₀ to₀ work i to =
-    Onward body left at first most work₀ i₀ to₀ work i to
+    Onward body left at first most work₀ i₀ (to₀ .byte) work i (to .byte)
 
 abbrev μ-loop : tie.MeasureT-loop
 μ-loop body left at work₀ room first most i₀ to₀ work i to =
@@ -18,9 +18,6 @@ abbrev μ-loop : tie.MeasureT-loop
 -- a point of the program: `let turn : At tie.In-loop = search in` finds, by its type, the one that c came by
 abbrev At : (tie.InvT-loop → tie.MeasureT-loop → Type 0) → Type 0
 At point = point Inv-loop μ-loop
-
-add-to : tie.Need-add-to Inv-loop μ-loop
-add-to c = let start : At tie.Start = search in omega arith
 
 loop-holds : tie.Need-loop-holds Inv-loop μ-loop
 loop-holds c =
@@ -63,7 +60,26 @@ pub take-spec : {M : Type 1} → statement M
 take-spec =
     tie.close
     (tie.spec
-    Inv-loop μ-loop (λ c κs. search needs) (λ c κs. search needs) add-to loop-holds (λ c κs. search needs) (λ c. search needs)
-    (λ c. search needs) (λ c κs. search needs) (λ c κs. search needs) same-length returns (λ c. search needs) (λ c. search needs)
-    (λ c. search needs) (λ c. search needs) (λ c. search needs) loop-again (λ c κs. search needs) (λ c κs. search needs) same-length-2
+    Inv-loop
+    μ-loop
+    (λ c κs. search needs)  -- lesser-requires
+    (λ c κs. search needs)  -- take-ones-requires
+    (λ c. let start : At tie.Start = search in omega arith)  -- add-t17
+    loop-holds
+    (λ c κs. search needs)  -- number-at-requires
+    (λ c. search needs)  -- enum-known-r
+    (λ c. search needs)  -- enum-told
+    (λ c κs. search needs)  -- from-byte-requires
+    (λ c κs. search needs)  -- taken-requires
+    same-length
+    returns
+    (λ c. search needs)  -- add-work
+    (λ c. search needs)  -- mul-work
+    (λ c. search needs)  -- slice-write-work
+    (λ c. search needs)  -- add-i
+    (λ c. search needs)  -- loop-less
+    loop-again
+    (λ c κs. search needs)  -- from-byte-requires-2
+    (λ c κs. search needs)  -- taken-requires-2
+    same-length-2
     returns-2)

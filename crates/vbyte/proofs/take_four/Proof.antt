@@ -29,8 +29,31 @@ pub take-four-spec : {M : Type 1} → statement M
 take-four-spec =
     tie.close
     (tie.spec
-    (λ c. search needs) (λ c κs. search needs) (λ c. search needs) (λ c. search needs) (λ c κs. search needs) (λ c. search needs)
-    (λ c. search needs) (λ c κs. search needs) (λ c. search needs) (λ c. search needs) (λ c κs. search needs) (λ c. search needs)
-    (λ c. search needs) (λ c. search needs) (λ c. search needs) (λ c. search needs) (λ c. search needs) (λ c. search needs)
-    (λ c. search needs) slice-write-work-2 (λ c. search needs) (λ c. search needs) slice-write-work-3 (λ c. search needs)
-    (λ c. search needs) slice-write-work-4 (λ c. search needs) returns-5)
+    (λ c. search needs)  -- shared-slice-read-wide
+    (λ c κs. search needs)  -- wide-requires
+    (λ c. search needs)  -- add-wide
+    (λ c. search needs)  -- shared-slice-read-wide-2
+    (λ c κs. search needs)  -- wide-requires-2
+    (λ c. search needs)  -- add-wide-2
+    (λ c. search needs)  -- shared-slice-read-wide-3
+    (λ c κs. search needs)  -- wide-requires-3
+    (λ c. search needs)  -- add-wide-3
+    (λ c. search needs)  -- shared-slice-read-wide-4
+    (λ c κs. search needs)  -- wide-requires-4
+    (λ c. search needs)  -- returns
+    (λ c. search needs)  -- returns-2
+    (λ c. search needs)  -- returns-3
+    (λ c. search needs)  -- returns-4
+    (λ c. search needs)  -- mul-work
+    (λ c. search needs)  -- slice-write-work
+    (λ c. search needs)  -- add-work
+    (λ c. search needs)  -- mul-work-2
+    slice-write-work-2
+    (λ c. search needs)  -- add-work-2
+    (λ c. search needs)  -- mul-work-3
+    slice-write-work-3
+    (λ c. search needs)  -- add-work-3
+    (λ c. search needs)  -- mul-work-4
+    slice-write-work-4
+    (λ c. search needs)  -- same-length
+    returns-5)

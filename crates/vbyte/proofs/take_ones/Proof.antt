@@ -54,5 +54,19 @@ pub take-ones-spec : {M : Type 1} → statement M
 take-ones-spec =
     tie.close
     (tie.spec
-    Inv-loop μ-loop (λ c. search needs) (λ c κs. search needs) loop-holds (λ c. search needs) (λ c. search needs) (λ c. search needs)
-    take-four-requires same-length returns-2 (λ c. search needs) (λ c. search needs) loop-again same-length-2 returns-3)
+    Inv-loop
+    μ-loop
+    (λ c. search needs)  -- returns
+    (λ c κs. search needs)  -- lesser-requires
+    loop-holds
+    (λ c. search needs)  -- add-loop
+    (λ c. search needs)  -- add-byte
+    (λ c. search needs)  -- add-number
+    take-four-requires
+    same-length
+    returns-2
+    (λ c. search needs)  -- add-n
+    (λ c. search needs)  -- loop-less
+    loop-again
+    same-length-2
+    returns-3)

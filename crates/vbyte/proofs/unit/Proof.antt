@@ -24,4 +24,10 @@ pub unit-spec : {M : Type 1} → statement M
 unit-spec =
     tie.close
     (tie.spec
-    (λ c κs. search needs) (λ c. search needs) (λ c. search needs) (λ c κs. search needs) (λ c. search needs) returns returns-2)
+    (λ c κs. search needs)  -- number-at-requires
+    (λ c. search needs)  -- enum-known-r
+    (λ c. search needs)  -- array-write-numbers
+    (λ c κs. search needs)  -- from-byte-requires
+    (λ c. search needs)  -- enum-known-r-2
+    returns
+    returns-2)

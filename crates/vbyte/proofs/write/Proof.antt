@@ -7,7 +7,7 @@ use Rattle.vbyte.proofs.write.Tie as tie
 
 abbrev Inv-loop : tie.InvT-loop
 Inv-loop list n out₀ first to₀ i₀ out to i =
-    Written list first n to₀ out₀ out to i
+    Written list first n (to₀ .byte) out₀ out to i
 
 abbrev μ-loop : tie.MeasureT-loop
 μ-loop list n out₀ first to₀ i₀ out to i =
@@ -41,5 +41,15 @@ pub write-spec : {M : Type 1} → statement M
 write-spec =
     tie.close
     (tie.spec
-    Inv-loop μ-loop loop-holds (λ c. search needs) (λ c. search needs) (λ c. search needs) put-number-requires (λ c. search needs)
-    (λ c. search needs) loop-again same-length returns)
+    Inv-loop
+    μ-loop
+    loop-holds
+    (λ c. search needs)  -- add-put-number
+    (λ c. search needs)  -- mul-put-number
+    (λ c. search needs)  -- shared-slice-read-put-number
+    put-number-requires
+    (λ c. search needs)  -- add-i
+    (λ c. search needs)  -- loop-less
+    loop-again
+    same-length
+    returns)

@@ -1,120 +1,166 @@
 -- `write` refuses in the definition's order, and writes once all is known to fit. Assumes nothing.
 use Prim.Native.Nat.{ℕ}
-use mathlib.Core.Path.{refl}
+use mathlib.Core.List.{List}
+use native.Mathlib.Omega.{arith}
 use borrow.Author.Needs.{needs}
-use Rattle.writer.proofs.Order.{refuse-orders, in-order, refuse-plan, refuse-list, refuse-work, refuse-large, refuse-room, accepted, work-serves}
+use Rattle.writer.proofs.Order.{PastOrders, PastLists, PastWork, refuse-orders, past-orders, refuse-plan, refuse-list, past-lists}
+use Rattle.writer.proofs.Order.{refuse-work, past-work, refuse-large, refuse-room, accepted}
 use Rattle.writer.proofs.write.Statement.{statement}
 use Rattle.writer.proofs.write.Tie as tie
 
-orders-hold-requires : tie.Need-orders-hold-requires
-orders-hold-requires c κs = search needs
+-- what is known of the slices that were given
+abbrev Of : tie.Start → (List ℕ → List ℕ → List ℕ → List ℕ → List ℕ → List ℕ → Type 0) → Type 0
+Of start Known =
+    let a = start .args in
+    Known (a .kinds .now) (a .plans .now) (a .counts .now) (a .joined .now) (a .work .now) (a .out .now)
 
+-- the points that signatures below name
+start-of : tie.Else1 → tie.Start
+start-of c = search
+
+held-of : tie.Else2 → tie.Else1
+held-of c = search
+
+rise-of : tie.Else3 → tie.Else2
+rise-of c = search
+
+-- ---- 11
 returns : tie.Need-returns
 returns c =
-    let a = c .before .before .before .before .before .before .before .before .args in
-    refuse-orders (a .kinds .now) (a .plans .now) (a .counts .now) (a .joined .now) (a .work .now) (a .out .now) _ (c .before .orders-hold .ensures) (c .if1 .taken)
+    let held : tie.After-orders-hold = search in
+    let start : tie.Start = search in
+    let a = start .args in
+    refuse-orders (a .kinds .now) (a .plans .now) (a .counts .now) (a .joined .now) (a .work .now) (a .out .now) (held .orders-hold .ensures) (c .if1 .taken)
 
+past-11 : (c : tie.Else1) → Of (start-of c) PastOrders
+unfolding start-of
+past-11 c =
+    let held : tie.After-orders-hold = search in
+    past-orders _ _ _ _ _ _ (held .orders-hold .ensures) (c .if1 .left)
+
+-- ---- each plan in turn
 judge-orders-requires : tie.Need-judge-orders-requires
-judge-orders-requires c κs =
-    let a = c .before .before .before .before .before .before .before .before .args in
-    in-order (a .kinds .now) (a .plans .now) (a .counts .now) (a .joined .now) (a .work .now) (a .out .now) _ (c .before .orders-hold .ensures) (c .if1 .left) .planned
-
-enum-known-judged : tie.Need-enum-known-judged
-enum-known-judged c = search needs
+unfolding start-of
+judge-orders-requires c κs = past-11 c .ordered .planned
 
 returns-2 : tie.Need-returns-2
+unfolding start-of
 returns-2 c =
-    let a = c .before .before .before .before .before .before .before .before .before .before .before .before .args in
-    let z : ℕ = c .before .judged .given .0 .0 in
-    refuse-plan (a .kinds .now) (a .plans .now) (a .counts .now) (a .joined .now) (a .work .now) (a .out .now) _ (c .before .before .before .before .before .orders-hold .ensures) (c .before .before .before .before .if1 .left) (c .before .before .before .judge-orders .result) (c .before .before .before .judge-orders .ensures (a .counts .now) (a .joined .now)) z (c .before .judged .given .1)
+    let told : tie.After-judged = search in
+    let judged : tie.After-judge-orders = search in
+    let held : tie.Else1 = search in
+    let a = start-of held .args in
+    refuse-plan (past-11 held) (told .judged .given .1) (judged .judge-orders .ensures (a .counts .now) (a .joined .now))
 
-enum-told : tie.Need-enum-told
-enum-told c = search needs
-
+-- ---- 10
 lists-rise-requires : tie.Need-lists-rise-requires
+unfolding start-of
 lists-rise-requires c κs =
-    let a = c .before .before .before .before .before .before .before .before .before .before .before .args in
-    let o = in-order (a .kinds .now) (a .plans .now) (a .counts .now) (a .joined .now) (a .work .now) (a .out .now) _ (c .before .before .before .before .orders-hold .ensures) (c .before .before .before .if1 .left) in
-    (o .counted, o .whole)
+    let held : tie.Else1 = search in
+    let ordered = past-11 held .ordered in
+    (ordered .counted, ordered .whole)
 
 returns-3 : tie.Need-returns-3
+unfolding start-of
 returns-3 c =
-    let a = c .before .before .before .before .before .before .before .before .before .before .before .before .before .args in
-    refuse-list (a .kinds .now) (a .plans .now) (a .counts .now) (a .joined .now) (a .work .now) (a .out .now) _ (c .before .before .before .before .before .before .orders-hold .ensures) (c .before .before .before .before .before .if1 .left) (c .before .before .before .before .judge-orders .result) (c .before .before .before .before .judge-orders .ensures (a .counts .now) (a .joined .now)) (c .before .before .enum-told .given .1) _ (c .before .lists-rise .ensures (a .plans .now)) (c .if2 .taken)
+    let asked : tie.After-lists-rise = search in
+    let passed : tie.After-enum-told = search in
+    let judged : tie.After-judge-orders = search in
+    let held : tie.Else1 = search in
+    let a = start-of held .args in
+    refuse-list (past-11 held) (passed .enum-told .given .1) (judged .judge-orders .ensures (a .counts .now) (a .joined .now))
+    (asked .lists-rise .ensures (a .plans .now)) (c .if2 .taken)
 
-largest-of-requires : tie.Need-largest-of-requires
-largest-of-requires c κs = search needs
+past-10 : (c : tie.Else2) → Of (start-of (held-of c)) PastLists
+unfolding start-of held-of
+past-10 c =
+    let asked : tie.After-lists-rise = search in
+    let passed : tie.After-enum-told = search in
+    let judged : tie.After-judge-orders = search in
+    let held : tie.Else1 = search in
+    let a = start-of held .args in
+    past-lists (past-11 held) (passed .enum-told .given .1) (judged .judge-orders .ensures (a .counts .now) (a .joined .now))
+    (asked .lists-rise .ensures (a .plans .now)) (c .if2 .left)
 
-mul-if3 : tie.Need-mul-if3
-mul-if3 c = search needs
-
+-- ---- 8
 returns-4 : tie.Need-returns-4
+unfolding start-of held-of
 returns-4 c =
-    let a = c .before .before .before .before .before .before .before .before .before .before .before .before .before .before .before .args in
-    refuse-work (a .kinds .now) (a .plans .now) (a .counts .now) (a .joined .now) (a .work .now) (a .out .now) _ (c .before .before .before .before .before .before .before .before .orders-hold .ensures) (c .before .before .before .before .before .before .before .if1 .left) (c .before .before .before .before .before .before .judge-orders .result) (c .before .before .before .before .before .before .judge-orders .ensures (a .counts .now) (a .joined .now)) (c .before .before .before .before .enum-told .given .1) _ (c .before .before .before .lists-rise .ensures (a .plans .now)) (c .before .before .if2 .left) (c .before .largest-of .result) (c .before .largest-of .ensures .0) (c .if3 .taken)
+    let most : tie.After-largest-of = search in
+    let rise : tie.Else2 = search in
+    refuse-work (past-10 rise) (most .largest-of .ensures .0) (c .if3 .taken)
 
-slice-aggregate-put-sheet : tie.Need-slice-aggregate-put-sheet
-slice-aggregate-put-sheet c = search needs
+past-8 : (c : tie.Else3) → Of (start-of (held-of (rise-of c))) PastWork
+unfolding start-of held-of rise-of
+past-8 c =
+    let most : tie.After-largest-of = search in
+    let rise : tie.Else2 = search in
+    past-work (past-10 rise) (most .largest-of .ensures .0) (c .if3 .left)
 
+-- ---- 7, told by the first pass
 put-sheet-requires : tie.Need-put-sheet-requires
+unfolding start-of held-of rise-of
 put-sheet-requires c κs =
-    let a = c .before .before .before .before .before .before .before .before .before .before .before .before .before .before .before .before .before .args in
-    (in-order (a .kinds .now) (a .plans .now) (a .counts .now) (a .joined .now) (a .work .now) (a .out .now) _ (c .before .before .before .before .before .before .before .before .before .before .orders-hold .ensures) (c .before .before .before .before .before .before .before .before .before .if1 .left), work-serves (a .counts .now) _ _ (c .before .before .before .largest-of .result) (c .before .before .before .largest-of .ensures .0) (c .before .before .if3 .left) refl)
-
-same-length : tie.Need-same-length
-same-length c = search needs
+    let enough : tie.Else3 = search in
+    let past = past-8 enough in
+    (past .ordered, past .serves)
 
 returns-5 : tie.Need-returns-5
+unfolding start-of held-of rise-of
 returns-5 c =
-    let a = c .before .before .before .before .before .before .before .before .before .before .before .before .before .before .before .before .before .before .before .before .before .before .args in
-    refuse-large (a .kinds .now) (a .plans .now) (a .counts .now) (a .joined .now) (a .work .now) (a .out .now) _ (c .before .before .before .before .before .before .before .before .before .before .before .before .before .before .before .orders-hold .ensures) (c .before .before .before .before .before .before .before .before .before .before .before .before .before .before .if1 .left) (c .before .before .before .before .before .before .before .before .before .before .before .before .before .judge-orders .result) (c .before .before .before .before .before .before .before .before .before .before .before .before .before .judge-orders .ensures (a .counts .now) (a .joined .now)) (c .before .before .before .before .before .before .before .before .before .before .before .enum-told .given .1) _ (c .before .before .before .before .before .before .before .before .before .before .lists-rise .ensures (a .plans .now)) (c .before .before .before .before .before .before .before .before .before .if2 .left) (c .before .before .before .before .before .before .before .before .largest-of .result) (c .before .before .before .before .before .before .before .before .largest-of .ensures .0) (c .before .before .before .before .before .before .before .if3 .left) _ _ _ (c .before .before .before .before .put-sheet .ensures) (c .if4 .taken)
-
-same-length-2 : tie.Need-same-length-2
-same-length-2 c = search needs
+    let sized : tie.After-put-sheet = search in
+    let enough : tie.Else3 = search in
+    refuse-large (past-8 enough) (sized .put-sheet .ensures) (c .if4 .taken)
 
 returns-6 : tie.Need-returns-6
+unfolding start-of held-of rise-of
 returns-6 c =
-    let a = c .before .before .before .before .before .before .before .before .before .before .before .before .before .before .before .before .before .before .before .before .before .before .before .args in
-    refuse-room (a .kinds .now) (a .plans .now) (a .counts .now) (a .joined .now) (a .work .now) (a .out .now) _ (c .before .before .before .before .before .before .before .before .before .before .before .before .before .before .before .before .orders-hold .ensures) (c .before .before .before .before .before .before .before .before .before .before .before .before .before .before .before .if1 .left) (c .before .before .before .before .before .before .before .before .before .before .before .before .before .before .judge-orders .result) (c .before .before .before .before .before .before .before .before .before .before .before .before .before .before .judge-orders .ensures (a .counts .now) (a .joined .now)) (c .before .before .before .before .before .before .before .before .before .before .before .before .enum-told .given .1) _ (c .before .before .before .before .before .before .before .before .before .before .before .lists-rise .ensures (a .plans .now)) (c .before .before .before .before .before .before .before .before .before .before .if2 .left) (c .before .before .before .before .before .before .before .before .before .largest-of .result) (c .before .before .before .before .before .before .before .before .before .largest-of .ensures .0) (c .before .before .before .before .before .before .before .before .if3 .left) _ _ _ (c .before .before .before .before .before .put-sheet .ensures) (c .before .if4 .left) (c .if5 .taken)
+    let small : tie.Else4 = search in
+    let sized : tie.After-put-sheet = search in
+    let enough : tie.Else3 = search in
+    refuse-room (past-8 enough) (sized .put-sheet .ensures) (small .if4 .left) (c .if5 .taken)
 
+-- ---- the second pass
 put-sheet-requires-2 : tie.Need-put-sheet-requires-2
+unfolding start-of held-of rise-of
 put-sheet-requires-2 c κs =
-    let a = c .before .before .before .before .before .before .before .before .before .before .before .before .before .before .before .before .before .before .before .before .before .before .before .before .before .args in
-    (in-order (a .kinds .now) (a .plans .now) (a .counts .now) (a .joined .now) (a .work .now) (a .out .now) _ (c .before .before .before .before .before .before .before .before .before .before .before .before .before .before .before .before .before .before .orders-hold .ensures) (c .before .before .before .before .before .before .before .before .before .before .before .before .before .before .before .before .before .if1 .left), work-serves (a .counts .now) _ _ (c .before .before .before .before .before .before .before .before .before .before .before .largest-of .result) (c .before .before .before .before .before .before .before .before .before .before .before .largest-of .ensures .0) (c .before .before .before .before .before .before .before .before .before .before .if3 .left) (c .before .before .before .before .before .before .work .given))
-
-same-length-3 : tie.Need-same-length-3
-same-length-3 c = search needs
-
-same-length-4 : tie.Need-same-length-4
-same-length-4 c = search needs
+    let kept : tie.After-work = search in
+    let enough : tie.Else3 = search in
+    let past = past-8 enough in
+    (past .ordered, λ k. omega (arith, past .serves k, kept .work .given))
 
 returns-7 : tie.Need-returns-7
+unfolding start-of held-of rise-of
 returns-7 c =
-    let a = c .before .before .before .before .before .before .before .before .before .before .before .before .before .before .before .before .before .before .before .before .before .before .before .before .before .before .before .before .before .before .args in
-    accepted (a .kinds .now) (a .plans .now) (a .counts .now) (a .joined .now) (a .work .now) (a .out .now) _ (c .before .before .before .before .before .before .before .before .before .before .before .before .before .before .before .before .before .before .before .before .before .before .before .orders-hold .ensures) (c .before .before .before .before .before .before .before .before .before .before .before .before .before .before .before .before .before .before .before .before .before .before .if1 .left) (c .before .before .before .before .before .before .before .before .before .before .before .before .before .before .before .before .before .before .before .before .before .judge-orders .result) (c .before .before .before .before .before .before .before .before .before .before .before .before .before .before .before .before .before .before .before .before .before .judge-orders .ensures (a .counts .now) (a .joined .now)) (c .before .before .before .before .before .before .before .before .before .before .before .before .before .before .before .before .before .before .before .enum-told .given .1) _ (c .before .before .before .before .before .before .before .before .before .before .before .before .before .before .before .before .before .before .lists-rise .ensures (a .plans .now)) (c .before .before .before .before .before .before .before .before .before .before .before .before .before .before .before .before .before .if2 .left) (c .before .before .before .before .before .before .before .before .before .before .before .before .before .before .before .before .largest-of .result) (c .before .before .before .before .before .before .before .before .before .before .before .before .before .before .before .before .largest-of .ensures .0) (c .before .before .before .before .before .before .before .before .before .before .before .before .before .before .before .if3 .left) _ _ _ (c .before .before .before .before .before .before .before .before .before .before .before .before .put-sheet .ensures) (c .before .before .before .before .before .before .before .before .if4 .left) (c .before .before .before .before .before .before .before .if5 .left) _ _ (c .before .before .before .before .put-sheet2 .ensures)
+    let laid : tie.After-put-sheet2 = search in
+    let fits : tie.Else5 = search in
+    let small : tie.Else4 = search in
+    let sized : tie.After-put-sheet = search in
+    let enough : tie.Else3 = search in
+    accepted (past-8 enough) (sized .put-sheet .ensures) (small .if4 .left) (fits .if5 .left) (laid .put-sheet2 .ensures)
 
 pub write-spec : {M : Type 1} → statement M
 write-spec =
     tie.close
     (tie.spec
-    orders-hold-requires
+    (λ c κs. search needs)  -- orders-hold-requires
     returns
     judge-orders-requires
-    enum-known-judged
+    (λ c. search needs)  -- enum-known-judged
     returns-2
-    enum-told
+    (λ c. search needs)  -- enum-told
     lists-rise-requires
     returns-3
-    largest-of-requires
-    mul-if3
+    (λ c κs. search needs)  -- largest-of-requires
+    (λ c. search needs)  -- mul-if3
     returns-4
-    slice-aggregate-put-sheet
+    (λ c. search needs)  -- slice-aggregate-put-sheet
     put-sheet-requires
-    same-length
+    (λ c. search needs)  -- same-length
     returns-5
-    same-length-2
+    (λ c. search needs)  -- same-length-2
     returns-6
     put-sheet-requires-2
-    same-length-3
-    same-length-4
+    (λ c. search needs)  -- same-length-3
+    (λ c. search needs)  -- same-length-4
     returns-7)

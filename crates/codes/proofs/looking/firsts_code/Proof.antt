@@ -1,13 +1,12 @@
 -- The numbers at the first `passed` places stand in work. Assumes nothing.
 use borrow.Author.Needs.{needs}
-use Prim.Native.Nat.{ℕ, _+_, _-_, _≤_, _<_}
+use Prim.Native.Nat.{ℕ, _-_, _≤_, _<_}
 use mathlib.Core.Path.{_≡_, refl, sym, ap, _∙_}
 use native.Mathlib.Omega.{arith}
-use lib.ListN.{length}
 use Rattle.meaning.specs.Answer.{refused}
 use Rattle.meaning.specs.Codes.{codeOf, lookCode}
 use Rattle.codes.specs.Firsts.{Space}
-use Rattle.codes.proofs.Lookings.{Looking, looking-start, start-refuses, refuses, passes, looking-on}
+use Rattle.codes.proofs.Lookings.{Looking, looking-start, start-refuses, refuses, looking-on}
 use Rattle.codes.proofs.Lookings.{those, Laid, laid-none, laid-went, firsts-stop, firsts-all}
 use Rattle.codes.proofs.Stretches.{goes-on, goes-refused}
 use Rattle.codes.proofs.looking.firsts_code.Statement.{statement}

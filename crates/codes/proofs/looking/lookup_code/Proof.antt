@@ -1,11 +1,10 @@
 -- `passed` numbers have been passed, none of them at the place. Assumes nothing.
 use borrow.Author.Needs.{needs}
-use Prim.Native.Nat.{ℕ, _+_, _-_, _*_, _^_, _≤_, _<_}
-use mathlib.Core.Path.{_≡_, refl, sym, ap, _∙_}
+use Prim.Native.Nat.{ℕ, _-_, _≤_, _<_}
+use mathlib.Core.Path.{_≡_, sym, ap, _∙_}
 use native.Mathlib.Omega.{arith}
 use lib.ListN.{length}
 use Rattle.meaning.specs.Answer.{given, refused}
-use Rattle.meaning.specs.Codes.{codeOf, lookCode}
 use Rattle.meaning.specs.Limits.{mostNumbers, unitPlaces}
 use Rattle.codes.proofs.Lookings.{Looking, looking-start, start-refuses, refuses, passes, looking-on, found}
 use Rattle.codes.proofs.Stretches.{goes-on, passed-long}

@@ -1,12 +1,12 @@
 -- The first `passed` lengths have been passed. Assumes nothing.
 use borrow.Author.Needs.{needs}
-use Prim.Native.Nat.{ℕ, _+_, _-_, _≤_, _<_}
-use mathlib.Core.Path.{_≡_, refl, sym, ap, _∙_}
+use Prim.Native.Nat.{ℕ, _-_, _≤_, _<_}
+use mathlib.Core.Path.{_≡_, sym, ap, _∙_}
 use native.Mathlib.Omega.{arith}
 use lib.ListN.{length}
 use Rattle.meaning.specs.Answer.{given, refused}
 use Rattle.meaning.specs.Codes.{codeOf, lookCode}
-use Rattle.meaning.specs.Limits.{mostNumbers, fault}
+use Rattle.meaning.specs.Limits.{mostNumbers}
 use Rattle.codes.proofs.Lookings.{looking-start, start-refuses, passes}
 use Rattle.codes.proofs.Seeks.{SeekingOn, on-start, on-refused, on-end, on-found, on-few, on-fault, on-within, on-next}
 use Rattle.stages.proofs.Seeks.{seek-none, seek-stops}

@@ -1,7 +1,7 @@
 -- `passed` numbers have been passed and added up, none of them at the place. Assumes nothing.
 use borrow.Author.Needs.{needs}
 use Prim.Native.Nat.{ℕ, _+_, _-_, _*_, _^_, _≤_, _<_}
-use mathlib.Core.Path.{_≡_, refl, sym, ap, _∙_}
+use mathlib.Core.Path.{_≡_, sym, ap, _∙_}
 use native.Mathlib.Omega.{arith}
 use lib.ListN.{length}
 use Rattle.meaning.specs.Answer.{given, refused}
@@ -16,7 +16,7 @@ use Rattle.codes.proofs.looking.total_code.Tie as tie
 
 abbrev Inv-loop : tie.InvT-loop
 Inv-loop code body n goal most numbers₀ start at₀ passed₀ s₀ numbers at passed s =
-    Looking code body n passed at × (passed ≤ goal) × (goal < n) × (n ≤ mostNumbers) × (length numbers ≡ 128) × (1 ≤ most) × (most ≤ unitPlaces)
+    Looking code body n passed at × (passed ≤ goal) × (goal < n) × (n ≤ mostNumbers) × (length numbers ≡ 192) × (1 ≤ most) × (most ≤ unitPlaces)
     × (total (lookCode (codeOf code) body n) passed ≡ given s) × (s ≤ passed * 2 ^ 32)
 
 abbrev μ-loop : tie.MeasureT-loop

@@ -1,12 +1,10 @@
 -- i numbers have been read and stand in work. Assumes nothing.
 use borrow.Author.Needs.{needs}
-use Prim.Native.Nat.{ℕ, _+_, _-_, _≤_, _<_}
-use mathlib.Core.Path.{_≡_, refl, sym, ap, _∙_}
+use Prim.Native.Nat.{_-_}
+use mathlib.Core.Path.{sym, _∙_}
 use native.Mathlib.Omega.{arith}
-use lib.ListN.{length}
-use Rattle.meaning.specs.Codes.{codeOf}
 use Rattle.codes.proofs.Readings.{Reading, reading-start, got-no-start, got-unit-refused, reading-few, reading-on, got-unjoined, got-all, got-left-over}
-use Rattle.codes.proofs.Stretches.{goes-on, goes-refused, passed-long}
+use Rattle.codes.proofs.Stretches.{goes-on, passed-long}
 use Rattle.codes.proofs.reading.read_code.Statement.{statement}
 use Rattle.codes.proofs.reading.read_code.Tie as tie
 

@@ -8,7 +8,8 @@ returns : tie.Need-returns
 returns c =
     let a = c .args in
     let f = c .fits in
-    eight-bits (a .a) (a .b) (a .c) (a .d) (a .e) (a .f) (a .g) (a .h) (f .b .fits) (f .c .fits) (f .d .fits) (f .e .fits) (f .f .fits) (f .g .fits) (f .h .fits)
+    eight-bits (a .a) (a .b) (a .c) (a .d) (a .e) (a .f) (a .g) (a .h)
+    (f .b .fits) (f .c .fits) (f .d .fits) (f .e .fits) (f .f .fits) (f .g .fits) (f .h .fits)
 
 pub eight-spec : {M : Type 1} → statement M
 eight-spec =

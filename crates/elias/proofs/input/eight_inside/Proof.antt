@@ -7,8 +7,9 @@ use Rattle.elias.proofs.input.eight_inside.Tie as tie
 
 returns : tie.Need-returns
 returns c =
-    let a = c .before .before .before .before .before .before .before .before .before .before .args in
-    window-of (a .body .now) (a .at) (c .eight .result) _ _ _ _ _ _ _ _ (c .eight .ensures) refl refl refl refl refl refl refl refl
+    let start : tie.Start = search in
+    let a = start .args in
+    window-of (a .body .now) (a .at .byte) (c .eight .result) _ _ _ _ _ _ _ _ (c .eight .ensures) refl refl refl refl refl refl refl refl
 
 pub eight-inside-spec : {M : Type 1} → statement M
 eight-inside-spec =

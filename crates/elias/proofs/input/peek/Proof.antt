@@ -5,16 +5,16 @@ use borrow.Author.Needs.{needs}
 use Rattle.elias.proofs.input.peek.Statement.{statement}
 use Rattle.elias.proofs.input.peek.Tie as tie
 
-window-requires : tie.Need-window-requires
-window-requires c κs = search needs
-
-shl-result : tie.Need-shl-result
-shl-result c = search needs
-
 returns : tie.Need-returns
 returns c =
-    let a = c .before .before .args in
-    peek-from (c .window .result) (a .p) (bitsOf (a .body .now)) (c .window .ensures)
+    let start : tie.Start = search in
+    let a = start .args in
+    peek-from (c .window .result) (a .at .index) (bitsOf (a .body .now)) (c .window .ensures)
 
 pub peek-spec : {M : Type 1} → statement M
-peek-spec = tie.close (tie.spec window-requires shl-result returns)
+peek-spec =
+    tie.close
+    (tie.spec
+    (λ c κs. search needs)  -- window-requires
+    (λ c. search needs)  -- shl-result
+    returns)

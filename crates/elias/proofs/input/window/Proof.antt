@@ -6,9 +6,19 @@ use Rattle.elias.proofs.input.window.Tie as tie
 
 returns-2 : tie.Need-returns-2
 returns-2 c =
-    let a = c .before .before .before .before .before .before .before .before .before .before .before .args in
-    window-of (a .body .now) (a .at) (c .eight .result) (c .before .before .before .before .before .before .before .before .byte-at .result) (c .before .before .before .before .before .before .before .byte-at2 .result) (c .before .before .before .before .before .before .byte-at3 .result) (c .before .before .before .before .before .byte-at4 .result) (c .before .before .before .before .byte-at5 .result) (c .before .before .before .byte-at6 .result) (c .before .before .byte-at7 .result) (c .before .byte-at8 .result)
-    (c .eight .ensures) (c .before .before .before .before .before .before .before .before .byte-at .ensures) (c .before .before .before .before .before .before .before .byte-at2 .ensures) (c .before .before .before .before .before .before .byte-at3 .ensures) (c .before .before .before .before .before .byte-at4 .ensures) (c .before .before .before .before .byte-at5 .ensures) (c .before .before .before .byte-at6 .ensures) (c .before .before .byte-at7 .ensures) (c .before .byte-at8 .ensures)
+    let h : tie.After-byte-at8 = search in
+    let g : tie.After-byte-at7 = search in
+    let f : tie.After-byte-at6 = search in
+    let e : tie.After-byte-at5 = search in
+    let d : tie.After-byte-at4 = search in
+    let third : tie.After-byte-at3 = search in
+    let b : tie.After-byte-at2 = search in
+    let first : tie.After-byte-at = search in
+    let start : tie.Start = search in
+    let a = start .args in
+    window-of (a .body .now) (a .at .byte) (c .eight .result) _ _ _ _ _ _ _ _ (c .eight .ensures)
+    (first .byte-at .ensures) (b .byte-at2 .ensures) (third .byte-at3 .ensures) (d .byte-at4 .ensures)
+    (e .byte-at5 .ensures) (f .byte-at6 .ensures) (g .byte-at7 .ensures) (h .byte-at8 .ensures)
 
 pub window-spec : {M : Type 1} → statement M
 window-spec =
@@ -18,19 +28,19 @@ window-spec =
     (λ c κs. search needs)  -- eight-inside-requires
     (λ c. search needs)  -- returns
     (λ c κs. search needs)  -- byte-at-requires
-    (λ c. search needs)  -- add-byte-at
+    (λ c. search needs)  -- add-t4
     (λ c κs. search needs)  -- byte-at-requires-2
-    (λ c. search needs)  -- add-byte-at-2
+    (λ c. search needs)  -- add-t5
     (λ c κs. search needs)  -- byte-at-requires-3
-    (λ c. search needs)  -- add-byte-at-3
+    (λ c. search needs)  -- add-t13
     (λ c κs. search needs)  -- byte-at-requires-4
-    (λ c. search needs)  -- add-byte-at-4
+    (λ c. search needs)  -- add-t16
     (λ c κs. search needs)  -- byte-at-requires-5
-    (λ c. search needs)  -- add-byte-at-5
+    (λ c. search needs)  -- add-t19
     (λ c κs. search needs)  -- byte-at-requires-6
-    (λ c. search needs)  -- add-byte-at-6
+    (λ c. search needs)  -- add-t22
     (λ c κs. search needs)  -- byte-at-requires-7
-    (λ c. search needs)  -- add-byte-at-7
+    (λ c. search needs)  -- add-t25
     (λ c κs. search needs)  -- byte-at-requires-8
     (λ c κs. search needs)  -- eight-requires
     returns-2)

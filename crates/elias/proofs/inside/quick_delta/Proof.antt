@@ -1,14 +1,9 @@
 -- `quick_delta` meets its contract. Assumes nothing.
-use mathlib.Core.Path.{sym}
 use native.Mathlib.Omega.{arith}
 use borrow.Author.Needs.{needs}
 use lib.Count.{leadingZeros, leading-le}
-use lib.ListN.{drop}
-use Rattle.meaning.specs.Bits.{bitsOf}
-use Rattle.meaning.specs.Limits.{fault}
 use Rattle.elias.specs.Seen.{Seen}
-use Rattle.elias.proofs.Looks.{length-large, length-some, delta-fits, delta-inside}
-use Rattle.elias.proofs.Seen.{seen-many, delta-refused}
+use Rattle.elias.proofs.Looks.{told-gives, stops, length-some, delta-fits, delta-inside}
 use Rattle.elias.proofs.inside.quick_delta.Statement.{statement}
 use Rattle.elias.proofs.inside.quick_delta.Tie as tie
 
@@ -19,30 +14,12 @@ start-of c = search
 looked-of : tie.Else2 → tie.After-peek-inside
 looked-of c = search
 
-seen : (c : tie.Else2) → let s = looked-of c .peek-inside .result in Seen 8 5 (start-of c .args .body .now) (start-of c .args .p) s (leadingZeros 64 s)
+seen : (c : tie.Else2) → let s = looked-of c .peek-inside .result in Seen 8 5 (start-of c .args .body .now) (start-of c .args .at .index) s (leadingZeros 64 s)
 unfolding start-of looked-of
 seen c = search needs
 
-returns : tie.Need-returns
-returns c = c .word-at .ensures
-
 cast-z : tie.Need-cast-z
 cast-z c = omega (arith, leading-le 64 (c .peek-inside .result))
-
-returns-2 : tie.Need-returns-2
-returns-2 c =
-    let looked : tie.After-peek-inside = search in
-    let start : tie.Start = search in
-    let l = drop (start .args .p) (bitsOf (start .args .body .now)) in
-    delta-refused l fault
-    (sym (seen-many (looked .peek-inside .result) l (omega (arith, looked .peek-inside .ok)) (looked .peek-inside .ensures) 5 33 (omega arith) (c .if2 .taken)))
-
-returns-3 : tie.Need-returns-3
-unfolding start-of looked-of
-returns-3 c =
-    let long : tie.After-top = search in
-    let few : tie.Else2 = search in
-    length-large (seen few) (long .top .ensures) (c .if3 .taken)
 
 sub-rest : tie.Need-sub-rest
 unfolding start-of looked-of
@@ -58,21 +35,13 @@ add-v c =
     let few : tie.Else2 = search in
     record { fits = delta-fits (seen few) (long .top .ensures) (omega arith) (c .top2 .ensures) }
 
-returns-4 : tie.Need-returns-4
-unfolding start-of looked-of
-returns-4 c =
-    let rest : tie.After-top2 = search in
-    let long : tie.After-top = search in
-    let few : tie.Else2 = search in
-    delta-inside (seen few) (long .top .ensures) (omega arith) (rest .top2 .ensures) .large (c .if4 .taken)
-
 returns-5 : tie.Need-returns-5
 unfolding start-of looked-of
 returns-5 c =
     let rest : tie.After-top2 = search in
     let long : tie.After-top = search in
     let few : tie.Else2 = search in
-    delta-inside (seen few) (long .top .ensures) (omega arith) (rest .top2 .ensures) .told (c .if4 .left)
+    told-gives (delta-inside (seen few) (long .top .ensures) (omega arith) (rest .top2 .ensures) (c .if4 .left))
 
 pub quick-delta-spec : {M : Type 1} → statement M
 quick-delta-spec =
@@ -80,19 +49,19 @@ quick-delta-spec =
     (tie.spec
     (λ c. search needs)  -- add-if1
     (λ c κs. search needs)  -- word-at-requires
-    returns
+    (λ c. told-gives (c .word-at .ensures))  -- returns
     (λ c κs. search needs)  -- peek-inside-requires
     cast-z
-    returns-2
+    (λ c. stops)  -- returns-2
     (λ c. search needs)  -- mul-size
     (λ c. search needs)  -- add-size
     (λ c κs. search needs)  -- top-requires
-    returns-3
+    (λ c. stops)  -- returns-3
     sub-rest
     (λ c. search needs)  -- shl-v
     (λ c. search needs)  -- shl-top
     (λ c κs. search needs)  -- top-requires-2
     add-v
-    returns-4
+    (λ c. stops)  -- returns-4
     (λ c. search needs)  -- add-whole
     returns-5)

@@ -1,37 +1,36 @@
 -- `push_delta` meets its contract. Assumes nothing.
 use native.Mathlib.Omega.{arith}
-use Rattle.elias.proofs.Writing.{sized, rest-there, rest-small, delta-room, delta-room-2, delta-pushed}
 use borrow.Author.Needs.{needs}
+use Rattle.elias.proofs.Writing.{Sized, sized, rest-there, rest-small, delta-room, delta-room-2, delta-pushed}
 use Rattle.elias.proofs.output.push_delta.Statement.{statement}
 use Rattle.elias.proofs.output.push_delta.Tie as tie
 
+-- v has so many bits
+long : (c : tie.After-bit-length) → Sized (c .bit-length .result) (c .before .before .args .v)
+long c = sized (c .bit-length .ensures .0) (c .before .before .pre .1) (c .before .before .pre .2)
+
 push-gamma-requires : tie.Need-push-gamma-requires
 push-gamma-requires c κs =
-    let a = c .before .before .before .args in
-    let b = c .before .bit-length .result in
-    let e = c .before .bit-length .ensures in
-    (delta-room b (a .v) (a .wait) (sized b (a .v) (e .0) (c .before .before .before .pre .1) (c .before .before .before .pre .2)) (e .0) (c .before .before .before .pre .0), e .1, omega (arith, e .2))
+    let counted : tie.After-bit-length = search in
+    let start : tie.Start = search in
+    (delta-room (long counted) (start .pre .0), long counted .some, omega (arith, long counted .few))
 
 sub-push-2 : tie.Need-sub-push-2
-sub-push-2 c =
-    let a = c .before .before .before .before .before .before .before .args in
-    let b = c .before .before .before .before .before .bit-length .result in
-    rest-there b (a .v) (sized b (a .v) (c .before .before .before .before .before .bit-length .ensures .0) (c .before .before .before .before .before .before .before .pre .1) (c .before .before .before .before .before .before .before .pre .2))
+sub-push-2 c = let counted : tie.After-bit-length = search in rest-there (long counted)
 
 push-requires : tie.Need-push-requires
 push-requires c κs =
-    let a = c .before .before .before .before .before .before .before .args in
-    let b = c .before .before .before .before .before .bit-length .result in
-    let e = c .before .before .before .before .before .bit-length .ensures in
-    let s = sized b (a .v) (e .0) (c .before .before .before .before .before .before .before .pre .1) (c .before .before .before .before .before .before .before .pre .2) in
-    (delta-room-2 b (a .v) (a .wait) s (e .0) (c .before .before .before .push-gamma .result) (a .out .now) (c .before .before .before .push-gamma .last .0) (c .before .before .before .push-gamma .ensures) (c .before .before .before .before .before .before .before .pre .0), rest-small b (a .v) s, omega (arith, e .2))
+    let first : tie.After-push-gamma = search in
+    let counted : tie.After-bit-length = search in
+    let start : tie.Start = search in
+    (delta-room-2 (long counted) (start .pre .0) (first .push-gamma .ensures), rest-small (long counted), omega (arith, long counted .few))
 
 returns : tie.Need-returns
 returns c =
-    let a = c .before .before .before .before .before .before .before .before .before .before .args in
-    let b = c .before .before .before .before .before .before .before .before .bit-length .result in
-    let e = c .before .before .before .before .before .before .before .before .bit-length .ensures .0 in
-    delta-pushed b (a .v) (a .wait) (sized b (a .v) e (c .before .before .before .before .before .before .before .before .before .before .pre .1) (c .before .before .before .before .before .before .before .before .before .before .pre .2)) e (c .before .before .before .before .before .before .push-gamma .result) (a .out .now) (c .before .before .before .before .before .before .push-gamma .last .0) (c .before .before .before .before .before .before .push-gamma .ensures) (c .before .before .push .result) (c .before .before .push .last .0) (c .before .before .push .ensures)
+    let rest : tie.After-push = search in
+    let first : tie.After-push-gamma = search in
+    let counted : tie.After-bit-length = search in
+    delta-pushed (long counted) (first .push-gamma .ensures) (rest .push .ensures)
 
 pub push-delta-spec : {M : Type 1} → statement M
 push-delta-spec =

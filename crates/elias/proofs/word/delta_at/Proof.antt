@@ -27,12 +27,12 @@ long c = c .first .given .0 .0
 abbrev size : (c : tie.After-first) → ℕ
 size c = c .first .given .0 .1 .0
 
--- the bits at p
+-- the bits from there on
 abbrev bits : (c : tie.After-first) → List ℕ
-bits c = drop (start-of c .args .p) (bitsOf (start-of c .args .body .now))
+bits c = drop (start-of c .args .at .index) (bitsOf (start-of c .args .body .now))
 
 first : (c : tie.After-first) → gammaIn 5 33 (bits c) ≡ given (long c, size c)
-first c = sym (c .before .before .gamma-in .ensures) ∙ ap wordSays (c .first .given .1)
+first c = let read : tie.After-gamma-in = search in sym (read .gamma-in .ensures) ∙ ap wordSays (c .first .given .1)
 
 -- and how many are left behind it
 record Bounds (long size left behind : ℕ) : Type 0 where
@@ -42,11 +42,12 @@ record Bounds (long size left behind : ℕ) : Type 0 where
   pub rest : behind ≡ left - size
 
 bounds : (c : tie.After-first)
-    → Bounds (long c) (size c) (8 * length (start-of c .args .body .now) - start-of c .args .p) (length (drop (size c) (bits c)))
+    → Bounds (long c) (size c) (8 * length (start-of c .args .body .now) - start-of c .args .at .index) (length (drop (size c) (bits c)))
 bounds c =
     let a = start-of c .args in
-    let b = gamma-back 5 33 (bits c) (long c, size c) (omega arith) (below-drop 2 (a .p) (bitsOf (a .body .now)) (bits-below (a .body .now))) (first c) in
-    let left = bits-left (a .p) (a .body .now) in
+    let small = below-drop 2 (a .at .index) (bitsOf (a .body .now)) (bits-below (a .body .now)) in
+    let b = gamma-back 5 33 (bits c) (long c, size c) (omega arith) small (first c) in
+    let left = bits-left (a .at .index) (a .body .now) in
     record { some = b .some; few = b .few; within = omega (arith, b .within); rest = omega (arith, length-drop (size c) (bits c)) }
 
 returns : tie.Need-returns
@@ -54,7 +55,7 @@ returns c =
     let read : tie.After-gamma-in = search in
     let start : tie.Start = search in
     let told = ap wordSays (c .enum-told .given .1) in
-    told ∙ delta-refused (drop (start .args .p) (bitsOf (start .args .body .now))) _ (sym (read .gamma-in .ensures) ∙ told)
+    told ∙ delta-refused (drop (start .args .at .index) (bitsOf (start .args .body .now))) _ (sym (read .gamma-in .ensures) ∙ told)
 
 sub-n : tie.Need-sub-n
 sub-n c = omega (arith, bounds (c .before))
@@ -67,12 +68,6 @@ returns-2 c = let read : tie.After-first = search in delta-short (bits read) (lo
 
 shl-within : tie.Need-shl-within
 shl-within c = let read : tie.After-first = search in omega (arith, bounds read .few)
-
-add-take-bits : tie.Need-add-take-bits
-add-take-bits c =
-    let read : tie.After-first = search in
-    let start : tie.Start = search in
-    omega (arith, bounds read .within, start .pre)
 
 take-bits-requires : tie.Need-take-bits-requires
 take-bits-requires c κs =
@@ -87,7 +82,7 @@ add-within c =
     let start : tie.Start = search in
     let a = start .args in
     let s = a .body .now in
-    let q : ℕ = a .p + size read in
+    let q : ℕ = a .at .index + size read in
     record {
       fits = one-before-fits (long read - 1) (c .take-bits .result) (drop q (bitsOf s)) (omega (arith, bounds read .few))
           (omega (arith, enough .if1 .left, bits-left q s, bounds read .within)) (c .take-bits .ensures) (below-drop 2 q (bitsOf s) (bits-below s));
@@ -99,11 +94,12 @@ returns-3 c =
     let enough : tie.Else1 = search in
     let read : tie.After-first = search in
     let start : tie.Start = search in
+    let a = start .args in
     let n : ℕ = long read - 1 in
     let there : n ≤ length (drop (size read) (bits read)) = omega (arith, enough .if1 .left, bounds read .rest) in
     c .within .ensures ∙ delta-value (bits read) (long read) (size read) (first read) _ there
     (one-before n (rest .take-bits .result) (drop (size read) (bits read)) (omega (arith, bounds read .few)) there
-    (rest .take-bits .ensures ∙ ap (λ (l : List ℕ). numberHigh 0 (take n l)) (sym (drop-drop (size read) (start .args .p) (bitsOf (start .args .body .now))))))
+    (rest .take-bits .ensures ∙ ap (λ (l : List ℕ). numberHigh 0 (take n l)) (sym (drop-drop (size read) (a .at .index) (bitsOf (a .body .now))))))
 
 pub delta-at-spec : {M : Type 1} → statement M
 delta-at-spec =
@@ -119,7 +115,7 @@ delta-at-spec =
     sub-if1
     returns-2
     shl-within
-    add-take-bits
+    (λ c. let read : tie.After-first = search in let start : tie.Start = search in omega (arith, bounds read .within, start .pre))  -- add-t11
     take-bits-requires
     add-within
     (λ c. search needs)  -- add-within-2

@@ -12,9 +12,9 @@ use borrow.Author.Needs.{needs}
 use Rattle.elias.proofs.word.gamma_in.Statement.{statement}
 use Rattle.elias.proofs.word.gamma_in.Tie as tie
 
--- the bits at p
+-- the bits from there on
 abbrev bits : tie.Start → List ℕ
-bits c = drop (c .args .p) (bitsOf (c .args .body .now))
+bits c = drop (c .args .at .index) (bitsOf (c .args .body .now))
 
 start-of : tie.Else2 → tie.Start
 start-of c = search
@@ -25,7 +25,7 @@ looked-of c = search
 -- the codeword is there
 there : (c : tie.Else2) → 2 * leadingZeros 64 (looked-of c .peek .result) + 1 ≤ length (bits (start-of c))
 unfolding start-of looked-of
-there c = let start : tie.Start = search in omega (arith, c .if2 .left, bits-left (start .args .p) (start .args .body .now))
+there c = let start : tie.Start = search in omega (arith, c .if2 .left, bits-left (start .args .at .index) (start .args .body .now))
 
 cast-z : tie.Need-cast-z
 cast-z c = omega (arith, leading-le 64 (c .peek .result))
@@ -44,7 +44,7 @@ returns-2 c =
     let start : tie.Start = search in
     let a = start .args in
     seen-short (looked .peek .result) (bits start) (omega (arith, looked .peek .ok)) (looked .peek .ensures) (a .zeros) (a .most) (start .pre .2)
-    (few .if1 .left) (omega (arith, c .if2 .taken, bits-left (a .p) (a .body .now)))
+    (few .if1 .left) (omega (arith, c .if2 .taken, bits-left (a .at .index) (a .body .now)))
 
 returns-3 : tie.Need-returns-3
 unfolding start-of looked-of
@@ -76,7 +76,7 @@ returns-4 c =
     let v = value .take-bits .result in
     c .within2 .ensures
     ∙ seen-value s (bits start) (omega (arith, looked .peek .ok)) (looked .peek .ensures) (a .zeros) (a .most) (start .pre .2) (few .if1 .left) v (there long)
-    (behind-further v (a .p) (leadingZeros 64 s) (bitsOf (a .body .now)) (value .take-bits .ensures))
+    (behind-further v (a .at .index) (leadingZeros 64 s) (bitsOf (a .body .now)) (value .take-bits .ensures))
 
 pub gamma-in-spec : {M : Type 1} → statement M
 gamma-in-spec =
@@ -93,8 +93,8 @@ gamma-in-spec =
     (λ c κs. search needs)  -- top-requires
     (λ c κs. search needs)  -- within-requires
     returns-3
+    (λ c. search needs)  -- add-t13
     (λ c. search needs)  -- add-take-bits
-    (λ c. search needs)  -- add-take-bits-2
     (λ c κs. search needs)  -- take-bits-requires
     (λ c κs. search needs)  -- within-requires-2
     returns-4)

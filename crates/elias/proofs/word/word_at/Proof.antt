@@ -14,20 +14,24 @@ use Rattle.elias.proofs.word.word_at.Tie as tie
 
 returns : tie.Need-returns
 returns c =
-    let a = c .before .before .args in
-    let l = bitsOf (a .body .now) in
-    word-none (a .form) (drop (a .p) l) (omega (arith, bits-left (a .p) (a .body .now)))
+    let start : tie.Start = search in
+    let a = start .args in
+    word-none (a .form) (drop (a .at .index) (bitsOf (a .body .now))) (omega (arith, bits-left (a .at .index) (a .body .now)))
 
 returns-2 : tie.Need-returns-2
 unfolding gammaWord
 returns-2 c =
-    let a = c .before .before .before .before .before .args in
-    c .gamma-in .ensures ∙ ap (λ (f : Form). wordOf f (drop (a .p) (bitsOf (a .body .now)))) (sym (c .before .enum-told .given .1))
+    let arm : tie.After-enum-told = search in
+    let start : tie.Start = search in
+    let a = start .args in
+    c .gamma-in .ensures ∙ ap (λ (f : Form). wordOf f (drop (a .at .index) (bitsOf (a .body .now)))) (sym (arm .enum-told .given .1))
 
 returns-3 : tie.Need-returns-3
 returns-3 c =
-    let a = c .before .before .before .before .before .args in
-    c .delta-at .ensures ∙ ap (λ (f : Form). wordOf f (drop (a .p) (bitsOf (a .body .now)))) (sym (c .before .enum-told2 .given .1))
+    let arm : tie.After-enum-told2 = search in
+    let start : tie.Start = search in
+    let a = start .args in
+    c .delta-at .ensures ∙ ap (λ (f : Form). wordOf f (drop (a .at .index) (bitsOf (a .body .now)))) (sym (arm .enum-told2 .given .1))
 
 pub word-at-spec : {M : Type 1} → statement M
 word-at-spec =

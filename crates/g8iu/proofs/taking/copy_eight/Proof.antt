@@ -2,45 +2,29 @@
 use Prim.Native.Nat.{_-_}
 use mathlib.Core.Path.{refl}
 use native.Mathlib.Omega.{arith}
+use borrow.Author.Needs.{needs}
 use Rattle.g8iu.proofs.Eights.{EightSo, eight-start, eight-long, eight-turn, eight-end}
 use Rattle.g8iu.proofs.taking.copy_eight.Statement.{statement}
 use Rattle.g8iu.proofs.taking.copy_eight.Tie as tie
 
 abbrev Inv-loop : tie.InvT-loop
-Inv-loop list at out₀ to i₀ out i = EightSo list at out₀ to out i
+Inv-loop list out₀ source first i₀ out i = EightSo list source out₀ first out i
 
 abbrev μ-loop : tie.MeasureT-loop
-μ-loop list at out₀ to i₀ out i = 8 - i
+μ-loop list out₀ source first i₀ out i = 8 - i
+
+-- a point of the program: `let turn : At tie.In-loop = search in` finds, by its type, the one that c came by
+abbrev At : (tie.InvT-loop → tie.MeasureT-loop → Type 0) → Type 0
+At point = point Inv-loop μ-loop
 
 loop-holds : tie.Need-loop-holds Inv-loop μ-loop
 loop-holds c = eight-start (c .pre .0) (c .pre .1)
 
-add-out : tie.Need-add-out Inv-loop μ-loop
-add-out c = omega arith
-
-mul-out : tie.Need-mul-out Inv-loop μ-loop
-mul-out c = omega arith
-
-shared-slice-read-out : tie.Need-shared-slice-read-out Inv-loop μ-loop
-shared-slice-read-out c = omega arith
-
-add-out-2 : tie.Need-add-out-2 Inv-loop μ-loop
-add-out-2 c = omega arith
-
-mul-out-2 : tie.Need-mul-out-2 Inv-loop μ-loop
-mul-out-2 c = omega arith
-
 slice-write-out : tie.Need-slice-write-out Inv-loop μ-loop
-slice-write-out c = omega (arith, eight-long (c .before .before .loop .inv))
-
-add-i : tie.Need-add-i Inv-loop μ-loop
-add-i c = omega arith
-
-loop-less : tie.Need-loop-less Inv-loop μ-loop
-loop-less c = omega arith
+slice-write-out c = let turn : At tie.In-loop = search in omega (arith, eight-long (turn .before .loop .inv))
 
 loop-again : tie.Need-loop-again Inv-loop μ-loop
-loop-again c = eight-turn (c .before .before .loop .inv) (c .before .loop-test .taken) refl
+loop-again c = let turn : At tie.In-loop = search in eight-turn (turn .before .loop .inv) (turn .loop-test .taken) refl
 
 same-length : tie.Need-same-length Inv-loop μ-loop
 same-length c = eight-long (c .before .loop .inv)
@@ -55,14 +39,14 @@ copy-eight-spec =
     Inv-loop
     μ-loop
     loop-holds
-    add-out
-    mul-out
-    shared-slice-read-out
-    add-out-2
-    mul-out-2
+    (λ c. search needs)  -- add-out
+    (λ c. search needs)  -- mul-out
+    (λ c. search needs)  -- shared-slice-read-out
+    (λ c. search needs)  -- add-out-2
+    (λ c. search needs)  -- mul-out-2
     slice-write-out
-    add-i
-    loop-less
+    (λ c. search needs)  -- add-i
+    (λ c. search needs)  -- loop-less
     loop-again
     same-length
     returns)

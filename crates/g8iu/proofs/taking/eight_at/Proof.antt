@@ -9,14 +9,14 @@ returns : tie.Need-returns
 returns c =
     let start : tie.Start = search in
     let low : tie.After-word-at = search in
-    rw (low .word-at .ensures, c .word-at2 .ensures) (words-number (start .args .bytes .now) (start .args .at) (omega arith))
+    rw (low .word-at .ensures, c .word-at2 .ensures) (words-number (start .args .bytes .now) (start .args .at .byte) (omega arith))
 
 pub eight-at-spec : {M : Type 1} → statement M
 eight-at-spec =
     tie.close
     (tie.spec
     (λ c κs. search needs)  -- word-at-requires
-    (λ c. search needs)  -- add-word-at
+    (λ c. search needs)  -- add-middle
     (λ c κs. search needs)  -- word-at-requires-2
     (λ c. search needs)  -- cast-result
     (λ c. search needs)  -- cast-result-2

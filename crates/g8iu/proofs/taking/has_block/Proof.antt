@@ -8,20 +8,20 @@ use Rattle.meaning.proofs.Tests.{by-order}
 use Rattle.g8iu.proofs.taking.has_block.Statement.{statement}
 use Rattle.g8iu.proofs.taking.has_block.Tie as tie
 
-lesser-requires : tie.Need-lesser-requires
-lesser-requires c κs = search needs
-
-sub-result : tie.Need-sub-result
-sub-result c = search needs
-
 returns : tie.Need-returns
 returns c =
+    let least : tie.After-lesser = search in
     let start : tie.Start = search in
-    let at = start .args .at in
+    let at = start .args .at .byte in
     let len = length (start .args .body .now) in
     by-order len (at + 9)
-    (λ h. rw (lt-leb (at + 9) len h) (le-ltb at (len - c .lesser .result) (omega arith)))
-    (λ h. rw (le-leb (at + 9) len h) (lt-ltb at (len - c .lesser .result) (omega arith)))
+    (λ h. rw (lt-leb (at + 9) len h) (le-ltb at (len - least .lesser .result) (omega arith)))
+    (λ h. rw (le-leb (at + 9) len h) (lt-ltb at (len - least .lesser .result) (omega arith)))
 
 pub has-block-spec : {M : Type 1} → statement M
-has-block-spec = tie.close (tie.spec lesser-requires sub-result returns)
+has-block-spec =
+    tie.close
+    (tie.spec
+    (λ c κs. search needs)  -- lesser-requires
+    (λ c. search needs)  -- sub-result
+    returns)

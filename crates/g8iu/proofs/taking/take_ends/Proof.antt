@@ -12,18 +12,15 @@ returns c =
     let start : tie.Start = search in
     eight-block (start .pre) (λ i. known .shared-slice-known .given i .fits) (small .if1 .taken) (stored .take-eight .ensures)
 
-returns-2 : tie.Need-returns-2
-returns-2 c = search needs
-
 pub take-ends-spec : {M : Type 1} → statement M
 take-ends-spec =
     tie.close
     (tie.spec
-    (λ c. search needs)  -- add-take-eight
+    (λ c. search needs)  -- add-data
     (λ c κs. search needs)  -- take-eight-requires
-    (λ c. search needs)  -- add-result
+    (λ c. search needs)  -- add-next
     (λ c. search needs)  -- same-length
     returns
     (λ c κs. search needs)  -- take-plain-requires
     (λ c. search needs)  -- same-length-2
-    returns-2)
+    (λ c. search needs))  -- returns-2

@@ -1,31 +1,29 @@
 -- `take_numbers` takes one number after another from the data as one number (`Numbers`). Assumes nothing.
+use Prim.Native.Nat.{_-_}
+use native.Mathlib.Nat.{add-sub-cancel}
 use native.Mathlib.Omega.{arith}
+use borrow.Author.Needs.{needs}
 use Rattle.g8iu.proofs.Numbers.{NumbersSo, numbers-start, numbers-long, numbers-index, numbers-room, numbers-less, numbers-small}
 use Rattle.g8iu.proofs.Numbers.{numbers-fault, numbers-few, numbers-turn, numbers-waste, numbers-end}
 use Rattle.g8iu.proofs.taking.take_numbers.Statement.{statement}
 use Rattle.g8iu.proofs.taking.take_numbers.Tie as tie
 
+-- `after` is the offset after the control byte
 abbrev Inv-loop : tie.InvT-loop
-Inv-loop body at ends most least out₀ to rest₀ coming₀ next₀ out rest coming next = NumbersSo body at ends most least out₀ to out rest coming next
+Inv-loop body ends most least out₀ after rest₀ coming₀ to out rest coming next = NumbersSo body (after - 1) ends most least out₀ to out rest coming next
 
 abbrev μ-loop : tie.MeasureT-loop
-μ-loop body at ends most least out₀ to rest₀ coming₀ next₀ out rest coming next = coming
+μ-loop body ends most least out₀ after rest₀ coming₀ to out rest coming next = coming
 
 -- a point of the program: `let turn : At tie.In-loop = search in` finds, by its type, the one that c came by
 abbrev At : (tie.InvT-loop → tie.MeasureT-loop → Type 0) → Type 0
 At point = point Inv-loop μ-loop
 
-add-eight-at : tie.Need-add-eight-at Inv-loop μ-loop
-add-eight-at c = omega arith
-
-eight-at-requires : tie.Need-eight-at-requires Inv-loop μ-loop
-eight-at-requires c κs = omega arith
-
 loop-holds : tie.Need-loop-holds Inv-loop μ-loop
 loop-holds c =
     let known : At tie.After-shared-slice-known = search in
     let start : At tie.Start = search in
-    numbers-start (start .pre) (λ i. known .shared-slice-known .given i .fits) (c .eight-at .ensures)
+    rw add-sub-cancel (numbers-start (start .pre) (λ i. known .shared-slice-known .given i .fits) (c .eight-at .ensures))
 
 cast-f : tie.Need-cast-f Inv-loop μ-loop
 cast-f c = omega (arith, numbers-index (c .before .loop .inv) (c .loop-test .taken))
@@ -46,7 +44,7 @@ same-length : tie.Need-same-length Inv-loop μ-loop
 same-length c = let turn : At tie.In-loop = search in numbers-long (turn .before .loop .inv)
 
 returns : tie.Need-returns Inv-loop μ-loop
-returns c = let turn : At tie.In-loop = search in numbers-fault (turn .before .loop .inv) (turn .loop-test .taken) (c .if1 .taken)
+returns c = let turn : At tie.In-loop = search in rw add-sub-cancel at (numbers-fault (turn .before .loop .inv) (turn .loop-test .taken) (c .if1 .taken))
 
 cast-out : tie.Need-cast-out Inv-loop μ-loop
 cast-out c = let turn : At tie.In-loop = search in omega (arith, numbers-small (turn .before .loop .inv) (turn .loop-test .taken))
@@ -87,13 +85,13 @@ same-length-2 : tie.Need-same-length-2 Inv-loop μ-loop
 same-length-2 c = let turn : At tie.At-loop = search in numbers-long (turn .loop .inv)
 
 returns-2 : tie.Need-returns-2 Inv-loop μ-loop
-returns-2 c = numbers-waste (c .before .before .loop .inv) (c .before .loop-test .left) (c .if2 .taken)
+returns-2 c = rw add-sub-cancel at (numbers-waste (c .before .before .loop .inv) (c .before .loop-test .left) (c .if2 .taken))
 
 same-length-3 : tie.Need-same-length-3 Inv-loop μ-loop
 same-length-3 c = let turn : At tie.At-loop = search in numbers-long (turn .loop .inv)
 
 returns-3 : tie.Need-returns-3 Inv-loop μ-loop
-returns-3 c = numbers-end (c .before .before .loop .inv) (c .before .loop-test .left) (omega (arith, c .if2 .left))
+returns-3 c = rw add-sub-cancel at (numbers-end (c .before .before .loop .inv) (c .before .loop-test .left) (omega (arith, c .if2 .left)))
 
 pub take-numbers-spec : {M : Type 1} → statement M
 take-numbers-spec =
@@ -101,8 +99,8 @@ take-numbers-spec =
     (tie.spec
     Inv-loop
     μ-loop
-    add-eight-at
-    eight-at-requires
+    (λ c. search needs)  -- add-data
+    (λ c κs. search needs)  -- eight-at-requires
     loop-holds
     cast-f
     mul-x

@@ -26,9 +26,6 @@ returns c =
     let a = start .args in
     reads-none (a .data-at) (a .body .now) (a .left) (a .at) (c .before .if1 .taken) (c .faulty .ensures)
 
-data-of-requires : tie.Need-data-of-requires Inv-loop μ-loop
-data-of-requires c κs = omega arith
-
 loop-holds : tie.Need-loop-holds Inv-loop μ-loop
 loop-holds c =
     let byte : At tie.After-wide = search in
@@ -38,19 +35,11 @@ loop-holds c =
     let a = start .args in
     reads-start (a .data-at) (a .body .now) (a .left) (a .at) (omega arith) (most .lesser .ensures) (byte .wide .ensures .0) (begins .data-of .ensures)
 
-add-len : tie.Need-add-len Inv-loop μ-loop
-add-len c = omega arith
-
 returns-2 : tie.Need-returns-2 Inv-loop μ-loop
 returns-2 c =
     let measured : At tie.After-bytes-from = search in
     let turn : At tie.In-loop = search in
     reads-cut (turn .before .loop .inv) (turn .loop-test .taken) (omega arith) (c .faulty2 .ensures)
-
-number-at-requires : tie.Need-number-at-requires Inv-loop μ-loop
-number-at-requires c κs =
-    let measured : At tie.After-bytes-from = search in
-    (omega arith, omega arith, omega arith)
 
 returns-3 : tie.Need-returns-3 Inv-loop μ-loop
 returns-3 c =
@@ -59,31 +48,6 @@ returns-3 c =
     let turn : At tie.In-loop = search in
     reads-long (turn .before .loop .inv) (turn .loop-test .taken) refl (number .number-at .ensures)
     (λ e. c .before .if3 .taken (long .byte-length .ensures ∙ e)) (c .faulty3 .ensures)
-
-mul-numbers : tie.Need-mul-numbers Inv-loop μ-loop
-mul-numbers c =
-    let turn : At tie.In-loop = search in
-    omega arith
-
-array-write-numbers : tie.Need-array-write-numbers Inv-loop μ-loop
-array-write-numbers c =
-    let turn : At tie.In-loop = search in
-    omega (arith, turn .before .loop .inv)
-
-add-to : tie.Need-add-to Inv-loop μ-loop
-add-to c =
-    let measured : At tie.After-bytes-from = search in
-    omega arith
-
-add-i : tie.Need-add-i Inv-loop μ-loop
-add-i c =
-    let turn : At tie.In-loop = search in
-    omega arith
-
-loop-less : tie.Need-loop-less Inv-loop μ-loop
-loop-less c =
-    let turn : At tie.In-loop = search in
-    omega arith
 
 loop-again : tie.Need-loop-again Inv-loop μ-loop
 loop-again c =
@@ -98,9 +62,6 @@ returns-4 : tie.Need-returns-4 Inv-loop μ-loop
 returns-4 c =
     let done : At tie.After-loop = search in
     reads-used (done .before .loop .inv) (done .loop-test .left) (c .before .if4 .taken) (c .faulty4 .ensures)
-
-next-of-requires : tie.Need-next-of-requires Inv-loop μ-loop
-next-of-requires c κs = omega arith
 
 returns-5 : tie.Need-returns-5 Inv-loop μ-loop
 returns-5 c =
@@ -118,26 +79,26 @@ group-at-spec =
     (λ c κs. search needs)  -- faulty-requires
     returns
     (λ c κs. search needs)  -- lesser-requires
-    data-of-requires
+    (λ c κs. search needs)  -- data-of-requires
     (λ c. search needs)  -- shared-slice-read-wide
     (λ c κs. search needs)  -- wide-requires
     (λ c. search needs)  -- cast-control
     loop-holds
-    add-len
+    (λ c. search needs)  -- add-len
     (λ c κs. search needs)  -- bytes-from-requires
     (λ c κs. search needs)  -- faulty-requires-2
     returns-2
-    number-at-requires
+    (λ c κs. search needs)  -- number-at-requires
     (λ c κs. search needs)  -- byte-length-requires
     (λ c κs. search needs)  -- faulty-requires-3
     returns-3
-    mul-numbers
-    array-write-numbers
-    add-to
-    add-i
-    loop-less
+    (λ c. search needs)  -- mul-numbers
+    (λ c. search needs)  -- array-write-numbers
+    (λ c. search needs)  -- add-to
+    (λ c. search needs)  -- add-i
+    (λ c. search needs)  -- loop-less
     loop-again
     (λ c κs. search needs)  -- faulty-requires-4
     returns-4
-    next-of-requires
+    (λ c κs. search needs)  -- next-of-requires
     returns-5)

@@ -8,31 +8,46 @@ use Rattle.groups.proofs.put.control_of.Tie as tie
 
 returns : tie.Need-returns
 returns c =
-    rw (c .if1 .taken) (control-0 (c .before .before .args .list .now) (c .before .before .args .from .number))
+    let start : tie.Start = search in
+    rw (c .if1 .taken) (control-0 (start .args .list .now) (start .args .from .number))
 
 returns-2 : tie.Need-returns-2
 returns-2 c =
-    let a = c .before .before .before .before .before .args in
-    rw (c .if2 .taken) (c .before .field-of .ensures .0 ∙ control-1 (a .list .now) (a .from .number) (omega arith))
+    let one : tie.After-field-of = search in
+    let start : tie.Start = search in
+    let a = start .args in
+    rw (c .if2 .taken) (one .field-of .ensures .0 ∙ control-1 (a .list .now) (a .from .number) (omega arith))
 
 returns-3 : tie.Need-returns-3
 returns-3 c =
-    let a = c .before .before .before .before .before .before .before .before .args in
-    let e = control-2 (a .list .now) (a .from .number) (omega arith) in
-    rw (c .if3 .taken) (omega (arith, c .before .before .before .before .field-of .ensures .0, c .before .field-of2 .ensures .0))
+    let two : tie.After-field-of2 = search in
+    let one : tie.After-field-of = search in
+    let start : tie.Start = search in
+    let e = control-2 (start .args .list .now) (start .args .from .number) (omega arith) in
+    rw (c .if3 .taken) (omega (arith, one .field-of .ensures .0, two .field-of2 .ensures .0))
 
 returns-4 : tie.Need-returns-4
 returns-4 c =
-    let a = c .before .before .before .before .before .before .before .before .before .before .before .args in
-    let e = control-3 (a .list .now) (a .from .number) (omega arith) in
-    rw (c .if4 .taken) (omega (arith, c .before .before .before .before .before .before .before .field-of .ensures .0, c .before .before .before .before .field-of2 .ensures .0, c .before .field-of3 .ensures .0))
+    let three : tie.After-field-of3 = search in
+    let two : tie.After-field-of2 = search in
+    let one : tie.After-field-of = search in
+    let start : tie.Start = search in
+    let e = control-3 (start .args .list .now) (start .args .from .number) (omega arith) in
+    rw (c .if4 .taken) (omega (arith, one .field-of .ensures .0, two .field-of2 .ensures .0, three .field-of3 .ensures .0))
 
 returns-5 : tie.Need-returns-5
 returns-5 c =
-    let a = c .before .before .before .before .before .before .before .before .before .before .before .before .before .args in
-    let k : a .k ≡ 4 = omega (arith, c .before .before .if4 .left, c .before .before .before .before .before .if3 .left, c .before .before .before .before .before .before .before .before .if2 .left, c .before .before .before .before .before .before .before .before .before .before .before .if1 .left, c .before .before .before .before .before .before .before .before .before .before .before .before .before .pre) in
-    let e = control-4 (a .list .now) (a .from .number) (omega (arith, c .before .before .before .before .before .before .before .before .before .before .before .before .before .pre)) in
-    rw k (omega (arith, c .before .before .before .before .before .before .before .before .before .field-of .ensures .0, c .before .before .before .before .before .before .field-of2 .ensures .0, c .before .before .before .field-of3 .ensures .0, c .field-of4 .ensures .0))
+    let past : tie.Else4 = search in
+    let three : tie.After-field-of3 = search in
+    let past₃ : tie.Else3 = search in
+    let two : tie.After-field-of2 = search in
+    let past₂ : tie.Else2 = search in
+    let one : tie.After-field-of = search in
+    let past₁ : tie.Else1 = search in
+    let start : tie.Start = search in
+    let k : start .args .k ≡ 4 = omega (arith, past .if4 .left, past₃ .if3 .left, past₂ .if2 .left, past₁ .if1 .left, start .pre) in
+    let e = control-4 (start .args .list .now) (start .args .from .number) (omega (arith, start .pre)) in
+    rw k (omega (arith, one .field-of .ensures .0, two .field-of2 .ensures .0, three .field-of3 .ensures .0, c .field-of4 .ensures .0))
 
 pub control-of-spec : {M : Type 1} → statement M
 control-of-spec =

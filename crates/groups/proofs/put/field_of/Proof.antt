@@ -5,9 +5,6 @@ use borrow.Author.Needs.{needs}
 use Rattle.groups.proofs.put.field_of.Statement.{statement}
 use Rattle.groups.proofs.put.field_of.Tie as tie
 
-byte-length-requires : tie.Need-byte-length-requires
-byte-length-requires c κs = search needs
-
 sub-result : tie.Need-sub-result
 sub-result c =
     omega (arith, c .byte-length .ensures, held (c .before .args .x) .least)
@@ -17,4 +14,9 @@ returns c =
     omega (arith, c .byte-length .ensures, held (c .before .args .x) .least, held (c .before .args .x) .most)
 
 pub field-of-spec : {M : Type 1} → statement M
-field-of-spec = tie.close (tie.spec byte-length-requires sub-result returns)
+field-of-spec =
+    tie.close
+    (tie.spec
+    (λ c κs. search needs)  -- byte-length-requires
+    sub-result
+    returns)

@@ -10,7 +10,7 @@ use Rattle.groups.proofs.put.put_fields.Tie as tie
 
 abbrev Inv-loop : tie.InvT-loop
 Inv-loop list n out₀ first to₀ i₀ out to i =
-    PutSo (fieldsOf list) first n to₀ out₀ out to i
+    PutSo (fieldsOf list) first n (to₀ .byte) out₀ out (to .byte) i
 
 abbrev μ-loop : tie.MeasureT-loop
 μ-loop list n out₀ first to₀ i₀ out to i =

@@ -4,15 +4,6 @@ use borrow.Author.Needs.{needs}
 use Rattle.groups.proofs.whole.field_at.Statement.{statement}
 use Rattle.groups.proofs.whole.field_at.Tie as tie
 
-word-at-requires : tie.Need-word-at-requires
-word-at-requires c κs = search needs
-
-mul-result : tie.Need-mul-result
-mul-result c = search needs
-
-element-copy-out-result : tie.Need-element-copy-out-result
-element-copy-out-result c = search needs
-
 returns : tie.Need-returns
 returns c =
     let word : tie.After-word-at = search in
@@ -20,7 +11,13 @@ returns c =
     let start : tie.Start = search in
     let a = start .args in
     let (few, there, largest) = start .pre in
-    rw (word .word-at .ensures, largest) (masked (a .body .now) (a .at) (λ i. known .shared-slice-known .given i .fits) there (a .f) few)
+    rw (word .word-at .ensures, largest) (masked (a .body .now) (a .at .byte) (λ i. known .shared-slice-known .given i .fits) there (a .f) few)
 
 pub field-at-spec : {M : Type 1} → statement M
-field-at-spec = tie.close (tie.spec word-at-requires mul-result element-copy-out-result returns)
+field-at-spec =
+    tie.close
+    (tie.spec
+    (λ c κs. search needs)  -- word-at-requires
+    (λ c. search needs)  -- mul-result
+    (λ c. search needs)  -- element-copy-out-result
+    returns)

@@ -4,15 +4,16 @@ use mathlib.Core.Path.{refl}
 use native.Mathlib.Omega.{arith}
 use Rattle.meaning.specs.Codes.{codeGroups}
 use Rattle.meaning.specs.Positions.{atByte}
+use Rattle.groups.specs.Layouts.{behind}
 use Rattle.groups.specs.Whole.{largestNumbers, leastNumbers}
-use Rattle.groups.proofs.Taking.{TakesWhole, groups-by, whole-start, whole-stop, takes-whole, whole-end}
+use Rattle.groups.proofs.Taking.{TakesWhole, groups-by, whole-start, whole-stop, whole-room, takes-whole, whole-end}
 use borrow.Author.Needs.{needs}
 use Rattle.groups.proofs.whole.take_groups.Statement.{statement}
 use Rattle.groups.proofs.whole.take_groups.Tie as tie
 
 abbrev Inv-loop : tie.InvT-loop
 Inv-loop body left at work₀ room first largest least plain limit₀ units₀ to₀ work limit units to =
-    TakesWhole codeGroups body left at room first work₀ work limit units (atByte to)
+    TakesWhole codeGroups behind body left at room first work₀ work limit units (atByte to)
 
 abbrev μ-loop : tie.MeasureT-loop
 μ-loop body left at work₀ room first largest least plain limit₀ units₀ to₀ work limit units to =
@@ -26,35 +27,12 @@ loop-holds : tie.Need-loop-holds Inv-loop μ-loop
 loop-holds c =
     let start : At tie.Start = search in
     let most : At tie.After-lesser = search in
-    whole-start groups-by refl (most .lesser .ensures) (start .pre .inside) (λ k. refl)
-
-loop-less : tie.Need-loop-less Inv-loop μ-loop
-loop-less c = omega arith
+    whole-start groups-by refl (most .lesser .ensures) (start .pre .inside) (λ k. refl) (omega arith)
 
 loop-again : tie.Need-loop-again Inv-loop μ-loop
 loop-again c =
     let turn : At tie.In-loop = search in
     whole-stop groups-by (turn .before .loop .inv) refl
-
-shared-slice-read-wide : tie.Need-shared-slice-read-wide Inv-loop μ-loop
-shared-slice-read-wide c =
-    let measured : At tie.After-bytes-from = search in
-    omega arith
-
-add-take-whole : tie.Need-add-take-whole Inv-loop μ-loop
-add-take-whole c =
-    let measured : At tie.After-bytes-from = search in
-    omega arith
-
-mul-take-whole : tie.Need-mul-take-whole Inv-loop μ-loop
-mul-take-whole c =
-    let turn : At tie.In-loop = search in
-    omega arith
-
-add-take-whole-2 : tie.Need-add-take-whole-2 Inv-loop μ-loop
-add-take-whole-2 c =
-    let turn : At tie.In-loop = search in
-    omega arith
 
 take-whole-requires : tie.Need-take-whole-requires Inv-loop μ-loop
 unfolding largestNumbers leastNumbers
@@ -62,34 +40,13 @@ take-whole-requires c κs =
     let byte : At tie.After-wide = search in
     let turn : At tie.In-loop = search in
     let measured : At tie.After-bytes-from = search in
-    record {
-      byte = byte .wide .ensures .1;
-      there = omega arith;
-      inside = omega (arith, turn .before .loop .inv);
-      largest-is = refl;
-      least-is = refl;
-    }
-
-loop-less-2 : tie.Need-loop-less-2 Inv-loop μ-loop
-loop-less-2 c =
-    let turn : At tie.In-loop = search in
-    omega arith
+    whole-room groups-by (turn .before .loop .inv) (turn .loop-test .taken) (byte .wide .ensures .1) (omega arith) refl refl
 
 loop-again-2 : tie.Need-loop-again-2 Inv-loop μ-loop
 loop-again-2 c =
     let group : At tie.After-take-whole = search in
     let turn : At tie.In-loop = search in
     whole-stop groups-by (turn .before .loop .inv) (group .take-whole .ensures .left (c .if2 .taken))
-
-add-units : tie.Need-add-units Inv-loop μ-loop
-add-units c =
-    let turn : At tie.In-loop = search in
-    omega arith
-
-loop-less-3 : tie.Need-loop-less-3 Inv-loop μ-loop
-loop-less-3 c =
-    let turn : At tie.In-loop = search in
-    omega arith
 
 loop-again-3 : tie.Need-loop-again-3 Inv-loop μ-loop
 loop-again-3 c =
@@ -99,14 +56,6 @@ loop-again-3 c =
     let measured : At tie.After-bytes-from = search in
     takes-whole groups-by (turn .before .loop .inv) (turn .loop-test .taken) (omega arith) (byte .wide .ensures .0)
     (group .take-whole .ensures .taken (c .if2 .left))
-
-mul-taken : tie.Need-mul-taken Inv-loop μ-loop
-mul-taken c = omega arith
-
-same-length : tie.Need-same-length Inv-loop μ-loop
-same-length c =
-    let done : At tie.At-loop = search in
-    done .loop .inv .long
 
 returns : tie.Need-returns Inv-loop μ-loop
 returns c =
@@ -122,21 +71,21 @@ take-groups-spec =
     (λ c κs. search needs)  -- bytes-from-requires
     (λ c κs. search needs)  -- lesser-requires
     loop-holds
-    loop-less
+    (λ c. search needs)  -- loop-less
     loop-again
-    shared-slice-read-wide
+    (λ c. search needs)  -- shared-slice-read-wide
     (λ c κs. search needs)  -- wide-requires
     (λ c. search needs)  -- cast-c
-    add-take-whole
-    mul-take-whole
-    add-take-whole-2
+    (λ c. search needs)  -- mul-number
+    (λ c. search needs)  -- add-number
+    (λ c. search needs)  -- add-t26
     take-whole-requires
-    loop-less-2
+    (λ c. search needs)  -- loop-less-2
     loop-again-2
-    add-units
-    loop-less-3
+    (λ c. search needs)  -- add-units
+    (λ c. search needs)  -- loop-less-3
     loop-again-3
-    mul-taken
+    (λ c. search needs)  -- mul-taken
     (λ c κs. search needs)  -- taken-requires
-    same-length
+    (λ c. search needs)  -- same-length
     returns)

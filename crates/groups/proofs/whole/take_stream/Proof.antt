@@ -1,18 +1,19 @@
--- A whole group that was taken is one turn (`TakesWhole`); at anything else the loop stops. Its data stands after its control byte. Assumes nothing.
-use Prim.Native.Nat.{_-_, _≤_}
+-- A whole group that was taken is one turn (`TakesWhole`); at anything else the loop stops. Data before its control byte is not taken. Assumes nothing.
+use Prim.Native.Nat.{_-_}
 use mathlib.Core.Path.{refl}
 use native.Mathlib.Omega.{arith}
 use Rattle.meaning.specs.Codes.{codeStream}
 use Rattle.meaning.specs.Positions.{atControl}
+use Rattle.groups.specs.Layouts.{apart}
 use Rattle.groups.specs.Whole.{largestNumbers, leastNumbers}
-use Rattle.groups.proofs.Taking.{TakesWhole, stream-by, whole-start, whole-stop, takes-whole, whole-end, whole-none}
+use Rattle.groups.proofs.Taking.{TakesWhole, stream-by, whole-start, whole-stop, whole-room, takes-whole, whole-end, whole-none}
 use borrow.Author.Needs.{needs}
 use Rattle.groups.proofs.whole.take_stream.Statement.{statement}
 use Rattle.groups.proofs.whole.take_stream.Tie as tie
 
 abbrev Inv-loop : tie.InvT-loop
 Inv-loop body left at work₀ room first largest least plain limit₀ units₀ control₀ to₀ work limit units control to =
-    TakesWhole codeStream body left at room first work₀ work limit units (atControl control to) × (control ≤ to)
+    TakesWhole codeStream apart body left at room first work₀ work limit units (atControl control to)
 
 abbrev μ-loop : tie.MeasureT-loop
 μ-loop body left at work₀ room first largest least plain limit₀ units₀ control₀ to₀ work limit units control to =
@@ -23,38 +24,18 @@ abbrev At : (tie.InvT-loop → tie.MeasureT-loop → Type 0) → Type 0
 At point = point Inv-loop μ-loop
 
 returns : tie.Need-returns Inv-loop μ-loop
-returns c =
-    let start : At tie.Start = search in
-    whole-none stream-by (c .taken .ensures)
+returns c = whole-none stream-by (c .taken .ensures)
 
 loop-holds : tie.Need-loop-holds Inv-loop μ-loop
 loop-holds c =
     let start : At tie.Start = search in
     let most : At tie.After-lesser = search in
-    (whole-start stream-by refl (most .lesser .ensures) (start .pre .inside) (λ k. refl), c .if1 .left)
-
-loop-less : tie.Need-loop-less Inv-loop μ-loop
-loop-less c = omega arith
+    whole-start stream-by refl (most .lesser .ensures) (start .pre .inside) (λ k. refl) (c .if1 .left)
 
 loop-again : tie.Need-loop-again Inv-loop μ-loop
 loop-again c =
     let turn : At tie.In-loop = search in
-    (whole-stop stream-by (turn .before .loop .inv .0) refl, turn .before .loop .inv .1)
-
-shared-slice-read-wide : tie.Need-shared-slice-read-wide Inv-loop μ-loop
-shared-slice-read-wide c =
-    let measured : At tie.After-bytes-from = search in
-    omega arith
-
-mul-take-whole : tie.Need-mul-take-whole Inv-loop μ-loop
-mul-take-whole c =
-    let turn : At tie.In-loop = search in
-    omega arith
-
-add-take-whole : tie.Need-add-take-whole Inv-loop μ-loop
-add-take-whole c =
-    let measured : At tie.After-bytes-from = search in
-    omega arith
+    whole-stop stream-by (turn .before .loop .inv) refl
 
 take-whole-requires : tie.Need-take-whole-requires Inv-loop μ-loop
 unfolding largestNumbers leastNumbers
@@ -62,34 +43,13 @@ take-whole-requires c κs =
     let byte : At tie.After-wide = search in
     let turn : At tie.In-loop = search in
     let measured : At tie.After-bytes-from = search in
-    record {
-      byte = byte .wide .ensures .1;
-      there = omega arith;
-      inside = omega (arith, turn .before .loop .inv .0);
-      largest-is = refl;
-      least-is = refl;
-    }
-
-loop-less-2 : tie.Need-loop-less-2 Inv-loop μ-loop
-loop-less-2 c =
-    let turn : At tie.In-loop = search in
-    omega arith
+    whole-room stream-by (turn .before .loop .inv) (turn .loop-test .taken) (byte .wide .ensures .1) (omega arith) refl refl
 
 loop-again-2 : tie.Need-loop-again-2 Inv-loop μ-loop
 loop-again-2 c =
     let group : At tie.After-take-whole = search in
     let turn : At tie.In-loop = search in
-    (whole-stop stream-by (turn .before .loop .inv .0) (group .take-whole .ensures .left (c .if3 .taken)), turn .before .loop .inv .1)
-
-add-units : tie.Need-add-units Inv-loop μ-loop
-add-units c =
-    let turn : At tie.In-loop = search in
-    omega arith
-
-loop-less-3 : tie.Need-loop-less-3 Inv-loop μ-loop
-loop-less-3 c =
-    let turn : At tie.In-loop = search in
-    omega arith
+    whole-stop stream-by (turn .before .loop .inv) (group .take-whole .ensures .left (c .if3 .taken))
 
 loop-again-3 : tie.Need-loop-again-3 Inv-loop μ-loop
 loop-again-3 c =
@@ -97,18 +57,13 @@ loop-again-3 c =
     let byte : At tie.After-wide = search in
     let turn : At tie.In-loop = search in
     let measured : At tie.After-bytes-from = search in
-    let stands = group .take-whole .ensures .taken (c .if3 .left) in (
-      takes-whole stream-by (turn .before .loop .inv .0) (turn .loop-test .taken) (omega arith) (byte .wide .ensures .0) stands,
-      omega (arith, turn .before .loop .inv .1, stands .after),
-    )
-
-mul-taken : tie.Need-mul-taken Inv-loop μ-loop
-mul-taken c = omega arith
+    takes-whole stream-by (turn .before .loop .inv) (turn .loop-test .taken) (omega arith) (byte .wide .ensures .0)
+    (group .take-whole .ensures .taken (c .if3 .left))
 
 returns-2 : tie.Need-returns-2 Inv-loop μ-loop
 returns-2 c =
     let done : At tie.At-loop = search in
-    whole-end stream-by (done .loop .inv .0) (c .taken2 .ensures)
+    whole-end stream-by (done .loop .inv) (c .taken2 .ensures)
 
 pub take-stream-spec : {M : Type 1} → statement M
 take-stream-spec =
@@ -121,21 +76,21 @@ take-stream-spec =
     (λ c κs. search needs)  -- taken-requires
     returns
     loop-holds
-    loop-less
+    (λ c. search needs)  -- loop-less
     loop-again
-    shared-slice-read-wide
+    (λ c. search needs)  -- shared-slice-read-wide
     (λ c κs. search needs)  -- wide-requires
     (λ c. search needs)  -- cast-c
-    mul-take-whole
-    add-take-whole
+    (λ c. search needs)  -- mul-number
+    (λ c. search needs)  -- add-number
     take-whole-requires
-    loop-less-2
+    (λ c. search needs)  -- loop-less-2
     loop-again-2
     (λ c. search needs)  -- add-control
-    add-units
-    loop-less-3
+    (λ c. search needs)  -- add-units
+    (λ c. search needs)  -- loop-less-3
     loop-again-3
-    mul-taken
+    (λ c. search needs)  -- mul-taken
     (λ c κs. search needs)  -- taken-requires-2
     (λ c. search needs)  -- same-length
     returns-2)

@@ -6,46 +6,17 @@ use borrow.Author.Needs.{needs}
 use Rattle.groups.proofs.whole.take_whole.Statement.{statement}
 use Rattle.groups.proofs.whole.take_whole.Tie as tie
 
-returns : tie.Need-returns
-returns c = left-alone
-
-returns-2 : tie.Need-returns-2
-returns-2 c = left-alone
-
-returns-3 : tie.Need-returns-3
-returns-3 c = left-alone
-
-returns-4 : tie.Need-returns-4
-returns-4 c = left-alone
-
-slice-write-work-2 : tie.Need-slice-write-work-2
-slice-write-work-2 c = simp length-set (omega arith)
-
-slice-write-work-3 : tie.Need-slice-write-work-3
-slice-write-work-3 c = simp length-set (omega arith)
-
-slice-write-work-4 : tie.Need-slice-write-work-4
-slice-write-work-4 c = simp length-set (omega arith)
-
--- the points before the tests, which `search` does not reach from after them
-fields-of : tie.Else1 → tie.After-field-at4
-fields-of c = search
-
-start-of : tie.After-field-at4 → tie.Start
-start-of c = search
-
 returns-5 : tie.Need-returns-5
-unfolding fields-of start-of
 returns-5 c =
     let three : tie.Else3 = search in
     let two : tie.Else2 = search in
     let one : tie.Else1 = search in
-    let fourth = fields-of one in
-    let third : tie.After-field-at3 = fourth .before in
-    let second : tie.After-field-at2 = third .before in
-    let first : tie.After-field-at = second .before in
+    let fourth : tie.After-field-at4 = search in
+    let third : tie.After-field-at3 = search in
+    let second : tie.After-field-at2 = search in
+    let first : tie.After-field-at = search in
     let known : tie.After-shared-slice-known = search in
-    let start = start-of fourth in
+    let start : tie.Start = search in
     four-taken (λ i. known .shared-slice-known .given i .fits) (start .pre)
     (record { is = first .field-at .ensures; low = one .if1 .left })
     (record { is = second .field-at2 .ensures; low = two .if2 .left })
@@ -58,38 +29,38 @@ take-whole-spec =
     (tie.spec
     (λ c κs. search needs)  -- field-at-requires
     (λ c. search needs)  -- add-second
-    (λ c. search needs)  -- add-field-at
+    (λ c. search needs)  -- add-d
     (λ c κs. search needs)  -- field-at-requires-2
     (λ c. search needs)  -- add-third
-    (λ c. search needs)  -- add-field-at-2
+    (λ c. search needs)  -- add-if1
     (λ c κs. search needs)  -- field-at-requires-3
     (λ c. search needs)  -- add-fourth
-    (λ c. search needs)  -- add-field-at-3
+    (λ c. search needs)  -- add-if1-2
     (λ c κs. search needs)  -- field-at-requires-4
     (λ c. search needs)  -- mul-if1
     (λ c. search needs)  -- element-copy-out-if1
-    returns
+    (λ c. left-alone)  -- returns
     (λ c. search needs)  -- mul-if2
     (λ c. search needs)  -- element-copy-out-if2
-    returns-2
+    (λ c. left-alone)  -- returns-2
     (λ c. search needs)  -- mul-if3
     (λ c. search needs)  -- element-copy-out-if3
-    returns-3
+    (λ c. left-alone)  -- returns-3
     (λ c. search needs)  -- mul-if4
     (λ c. search needs)  -- element-copy-out-if4
-    returns-4
+    (λ c. left-alone)  -- returns-4
     (λ c. search needs)  -- mul-work
     (λ c. search needs)  -- slice-write-work
     (λ c. search needs)  -- add-work
     (λ c. search needs)  -- mul-work-2
-    slice-write-work-2
+    (λ c. simp length-set (omega arith))  -- slice-write-work-2
     (λ c. search needs)  -- add-work-2
     (λ c. search needs)  -- mul-work-3
-    slice-write-work-3
+    (λ c. simp length-set (omega arith))  -- slice-write-work-3
     (λ c. search needs)  -- add-work-3
     (λ c. search needs)  -- mul-work-4
-    slice-write-work-4
-    (λ c. search needs)  -- add-result
-    (λ c. search needs)  -- add-result-2
+    (λ c. simp length-set (omega arith))  -- slice-write-work-4
+    (λ c. search needs)  -- add-t21
+    (λ c. search needs)  -- add-t34
     (λ c. search needs)  -- same-length
     returns-5)

@@ -5,52 +5,45 @@ use native.Mathlib.Omega.{arith}
 use borrow.Author.Needs.{needs}
 use lib.ListN.{length}
 use Rattle.meaning.specs.Limits.{planBytes}
-use Rattle.writer.proofs.Copies.{Copying, copying-start, copying-long}
-use Rattle.orders.proofs.Taken.{plan-turn, plan-end}
+use Rattle.orders.proofs.Taken.{Putting, putting-start, putting-long, putting-turn, putting-end}
 use Rattle.orders.proofs.apart.put_plan.Statement.{statement}
 use Rattle.orders.proofs.apart.put_plan.Tie as tie
 
 abbrev Inv-loop : tie.InvT-loop
-Inv-loop plans₀ at plan j₀ plans j = Copying plan 0 planBytes plans₀ at plans j
+Inv-loop plans₀ plan start j₀ plans j = Putting plan plans₀ start plans j
 
 abbrev μ-loop : tie.MeasureT-loop
-μ-loop plans₀ at plan j₀ plans j = planBytes - j
+μ-loop plans₀ plan start j₀ plans j = planBytes - j
+
+-- a point of the program, found by its type
+abbrev At : (tie.InvT-loop → tie.MeasureT-loop → Type 0) → Type 0
+At point = point Inv-loop μ-loop
 
 loop-holds : tie.Need-loop-holds Inv-loop μ-loop
 loop-holds c =
-    copying-start (c .args .t1) 0 planBytes (c .args .plans .now) (c .args .at)
-
-array-read-plans : tie.Need-array-read-plans Inv-loop μ-loop
-array-read-plans c = search needs
-
-add-plans : tie.Need-add-plans Inv-loop μ-loop
-add-plans c = search needs
+    let a = c .args in
+    let whole : length (a .t1) ≡ planBytes = search needs in
+    putting-start (a .t1) (a .plans .now) (a .at .byte) whole (c .pre)
 
 slice-write-plans : tie.Need-slice-write-plans Inv-loop μ-loop
 slice-write-plans c =
-    let a = c .before .before .args in omega (arith, copying-long (a .t1) 0 planBytes (a .plans .now) (a .at) _ _ (c .before .loop .inv))
-
-add-j : tie.Need-add-j Inv-loop μ-loop
-add-j c = search needs
-
-loop-less : tie.Need-loop-less Inv-loop μ-loop
-loop-less c = search needs
+    let turn : At tie.At-loop = search in
+    omega (arith, putting-long (turn .loop .inv), turn .loop .inv .inside)
 
 loop-again : tie.Need-loop-again Inv-loop μ-loop
 loop-again c =
-    let a = c .before .before .args in
-    let whole : length (a .t1) ≡ planBytes = search needs in
-    plan-turn (a .t1) (a .plans .now) (a .at) _ _ (c .before .loop .inv) whole (c .loop-test .taken)
+    let turn : At tie.At-loop = search in
+    putting-turn (turn .loop .inv) (c .loop-test .taken)
 
 same-length : tie.Need-same-length Inv-loop μ-loop
 same-length c =
-    let a = c .before .before .args in copying-long (a .t1) 0 planBytes (a .plans .now) (a .at) _ _ (c .before .loop .inv)
+    let turn : At tie.At-loop = search in
+    putting-long (turn .loop .inv)
 
 returns : tie.Need-returns Inv-loop μ-loop
 returns c =
-    let a = c .before .before .args in
-    let whole : length (a .t1) ≡ planBytes = search needs in
-    (plan-end (a .t1) (a .plans .now) (a .at) _ _ (c .before .loop .inv) whole (c .loop-test .left), whole)
+    let turn : At tie.At-loop = search in
+    (putting-end (turn .loop .inv) (c .loop-test .left), turn .loop .inv .whole)
 
 pub put-plan-spec : {M : Type 1} → statement M
 put-plan-spec =
@@ -59,11 +52,11 @@ put-plan-spec =
     Inv-loop
     μ-loop
     loop-holds
-    array-read-plans
-    add-plans
+    (λ c. search needs)  -- array-read-plans
+    (λ c. search needs)  -- add-plans
     slice-write-plans
-    add-j
-    loop-less
+    (λ c. search needs)  -- add-j
+    (λ c. search needs)  -- loop-less
     loop-again
     same-length
     returns)

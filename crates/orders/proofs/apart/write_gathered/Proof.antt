@@ -18,93 +18,55 @@ abbrev μ-loop : tie.MeasureT-loop
 μ-loop joined work out g n kinds₀ plans₀ counts₀ i₀ kinds plans counts i =
     n - i
 
+-- a point of the program, found by its type
+abbrev At : (tie.InvT-loop → tie.MeasureT-loop → Type 0) → Type 0
+At point = point Inv-loop μ-loop
+
 returns : tie.Need-returns Inv-loop μ-loop
 returns c =
-    let a = c .before .before .before .before .args in refuse-many (a .t1) (a .joined .now) (length (a .work .now)) (a .out .now) (omega arith)
+    let start : At tie.Start = search in
+    let a = start .args in
+    refuse-many (a .t1) (a .joined .now) (length (a .work .now)) (a .out .now) (c .if1 .taken)
 
 loop-holds : tie.Need-loop-holds Inv-loop μ-loop
 loop-holds c =
-    let a = c .before .before .before .before .args in apart-start (a .t1 .list) (a .t1 .n) _ _ _ refl refl refl
-
-mul-o : tie.Need-mul-o Inv-loop μ-loop
-mul-o c = search needs
-
-element-copy-out-o : tie.Need-element-copy-out-o Inv-loop μ-loop
-element-copy-out-o c = search needs
-
-array-write-kinds : tie.Need-array-write-kinds Inv-loop μ-loop
-array-write-kinds c = search needs
-
-slice-aggregate-put-plan : tie.Need-slice-aggregate-put-plan Inv-loop μ-loop
-slice-aggregate-put-plan c =
-    search (needs, c .before .before .before .before .loop .inv .plans-long)
-
-mul-put-plan : tie.Need-mul-put-plan Inv-loop μ-loop
-mul-put-plan c = search needs
-
-put-plan-requires : tie.Need-put-plan-requires Inv-loop μ-loop
-put-plan-requires c κs =
-    omega (arith, c .before .before .before .before .loop .inv .plans-long)
-
-mul-counts : tie.Need-mul-counts Inv-loop μ-loop
-mul-counts c = search needs
-
-array-write-counts : tie.Need-array-write-counts Inv-loop μ-loop
-array-write-counts c = search needs
-
-add-i : tie.Need-add-i Inv-loop μ-loop
-add-i c = search needs
-
-loop-less : tie.Need-loop-less Inv-loop μ-loop
-loop-less c = search needs
+    let start : At tie.Start = search in
+    let g = start .args .t1 in
+    -- what the type says of g: its list has 16 elements
+    let there : length (g .list) ≡ mostColumns = sym (length-map (g .list) _) ∙ start .good .0 .1 .1 .0 .1 .0 .1 in
+    apart-start (g .list) (g .n) _ _ _ (c .if1 .left) there refl refl refl
 
 loop-again : tie.Need-loop-again Inv-loop μ-loop
 loop-again c =
-    let a = c .before .before .before .before .before .before .before .before .before .before .before .args in
-    -- what the type says of g: its list has 16 elements
-    let there : length (a .t1 .list) ≡ mostColumns = sym (length-map (a .t1 .list) _) ∙ c .before .before .before .before .before .before .before .before .before .before .before .good .0 .1 .1 .0 .1 .0 .1 in
-    apart-turn (a .t1 .list) (a .t1 .n) _ _ _ _ (c .before .before .before .before .before .before .loop .inv) (c .before .before .before .before .before .before .before .if1 .left) (c .before .before .before .before .before .loop-test .taken) there (c .before .put-plan .ensures .1) _ (c .before .put-plan .ensures .0)
-
-mul-stop : tie.Need-mul-stop Inv-loop μ-loop
-mul-stop c = search needs
-
-array-share-prefix-kinds : tie.Need-array-share-prefix-kinds Inv-loop μ-loop
-array-share-prefix-kinds c =
-    omega (arith, c .before .loop .inv .kinds-long)
+    let put : At tie.After-put-plan = search in
+    let inside : At tie.In-loop = search in
+    let turn : At tie.At-loop = search in
+    apart-turn (turn .loop .inv) (inside .loop-test .taken) (put .put-plan .ensures .1) _ (put .put-plan .ensures .0)
 
 slice-aggregate-write : tie.Need-slice-aggregate-write Inv-loop μ-loop
 slice-aggregate-write c =
-    sym (length-take-le _ _ (omega (arith, c .before .before .loop .inv .kinds-long)))
-
-array-share-prefix-plans : tie.Need-array-share-prefix-plans Inv-loop μ-loop
-array-share-prefix-plans c =
-    omega (arith, c .before .before .loop .inv .plans-long)
+    let turn : At tie.At-loop = search in
+    sym (length-take-le _ _ (omega (arith, turn .loop .inv .kinds-long)))
 
 slice-aggregate-write-2 : tie.Need-slice-aggregate-write-2 Inv-loop μ-loop
 slice-aggregate-write-2 c =
-    sym (length-take-le _ _ (omega (arith, c .before .before .before .loop .inv .plans-long)))
-
-array-share-prefix-counts : tie.Need-array-share-prefix-counts Inv-loop μ-loop
-array-share-prefix-counts c =
-    omega (arith, c .before .before .before .loop .inv .counts-long)
+    let turn : At tie.At-loop = search in
+    sym (length-take-le _ _ (omega (arith, turn .loop .inv .plans-long)))
 
 slice-aggregate-write-3 : tie.Need-slice-aggregate-write-3 Inv-loop μ-loop
 slice-aggregate-write-3 c =
-    sym (length-take-le _ _ (omega (arith, c .before .before .before .before .loop .inv .counts-long)))
-
-write-requires : tie.Need-write-requires Inv-loop μ-loop
-write-requires c κs = search needs
-
-same-length : tie.Need-same-length Inv-loop μ-loop
-same-length c = search needs
-
-same-length-2 : tie.Need-same-length-2 Inv-loop μ-loop
-same-length-2 c = search needs
+    let turn : At tie.At-loop = search in
+    sym (length-take-le _ _ (omega (arith, turn .loop .inv .counts-long)))
 
 returns-2 : tie.Need-returns-2 Inv-loop μ-loop
 returns-2 c =
-    let a = c .before .before .before .before .before .before .before .before .before .before .before .before .before .before .before .before .args in
-    written (a .t1) (a .joined .now) (length (a .work .now)) (a .out .now) _ _ _ _ (c .before .before .before .before .before .before .before .before .before .before .before .loop .inv) (c .before .before .before .before .before .before .before .before .before .before .before .before .if1 .left) (c .before .before .before .before .before .before .before .before .before .before .loop-test .left) (c .before .before .before .before .write .result) _ (c .before .before .before .before .write .ensures)
+    let wrote : At tie.After-write = search in
+    let left : At tie.After-loop = search in
+    let turn : At tie.At-loop = search in
+    let start : At tie.Start = search in
+    let a = start .args in
+    written (a .t1) (a .joined .now) (length (a .work .now)) (a .out .now) (turn .loop .inv) (left .loop-test .left) (wrote .write .result) _
+    (wrote .write .ensures)
 
 pub write-gathered-spec : {M : Type 1} → statement M
 write-gathered-spec =
@@ -114,25 +76,25 @@ write-gathered-spec =
     μ-loop
     returns
     loop-holds
-    mul-o
-    element-copy-out-o
-    array-write-kinds
-    slice-aggregate-put-plan
-    mul-put-plan
-    put-plan-requires
-    mul-counts
-    array-write-counts
-    add-i
-    loop-less
+    (λ c. search needs)  -- mul-o
+    (λ c. search needs)  -- element-copy-out-o
+    (λ c. search needs)  -- array-write-kinds
+    (λ c. search needs)  -- mul-byte
+    (λ c. search needs)  -- slice-aggregate-put-plan
+    (λ c κs. search needs)  -- put-plan-requires
+    (λ c. search needs)  -- mul-counts
+    (λ c. search needs)  -- array-write-counts
+    (λ c. search needs)  -- add-i
+    (λ c. search needs)  -- loop-less
     loop-again
-    mul-stop
-    array-share-prefix-kinds
+    (λ c. search needs)  -- mul-stop
+    (λ c. search needs)  -- array-share-prefix-kinds
     slice-aggregate-write
-    array-share-prefix-plans
+    (λ c. search needs)  -- array-share-prefix-plans
     slice-aggregate-write-2
-    array-share-prefix-counts
+    (λ c. search needs)  -- array-share-prefix-counts
     slice-aggregate-write-3
-    write-requires
-    same-length
-    same-length-2
+    (λ c κs. search needs)  -- write-requires
+    (λ c. search needs)  -- same-length
+    (λ c. search needs)  -- same-length-2
     returns-2)

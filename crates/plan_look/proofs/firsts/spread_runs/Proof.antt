@@ -1,5 +1,4 @@
 -- `spread_runs`: what is laid, and why no more is. Assumes nothing.
-use native.Mathlib.Omega.{arith}
 use Rattle.plan_look.proofs.Spreads.{runs-turned}
 use borrow.Author.Needs.{needs}
 use Rattle.plan_look.proofs.firsts.spread_runs.Statement.{statement}

@@ -1,5 +1,5 @@
 -- `run_of`: by the case that was sought. Assumes nothing.
-use mathlib.Core.Path.{_≡_, sym, ap, _∙_}
+use mathlib.Core.Path.{sym, ap, _∙_}
 use borrow.Author.Tests.{lt-ltb, le-ltb}
 use Rattle.plan_look.specs.Turns.{runOf}
 use borrow.Author.Needs.{needs}

@@ -1,36 +1,32 @@
 -- `read_again`: what was read before is read again. Assumes nothing.
-use Rattle.sheet.proofs.BoardLaws.{known-here, known-readable, again-whole, again-never}
 use borrow.Author.Needs.{needs}
+use Rattle.sheet.proofs.BoardLaws.{known-here, known-readable, again-whole, again-never}
 use Rattle.sheet.proofs.boards.read_again.Statement.{statement}
 use Rattle.sheet.proofs.boards.read_again.Tie as tie
 
 entry-at-requires : tie.Need-entry-at-requires
-entry-at-requires c κs =
-    let s = c .before .before in known-here (s .args .sheet .now) (s .args .column) (s .args .work .now) (s .pre)
+entry-at-requires c κs = let start : tie.Start = search in known-here (start .pre)
 
 read-column-requires : tie.Need-read-column-requires
 read-column-requires c κs =
-    let s = c .before .before .before .before in known-readable (s .args .sheet .now) (s .args .column) (s .args .work .now) (s .pre) (c .before .entry-at .result) (c .before .entry-at .ensures)
-
-enum-known-got : tie.Need-enum-known-got
-enum-known-got c = search needs
-
-enum-told : tie.Need-enum-told
-enum-told c = search needs
-
-same-length : tie.Need-same-length
-same-length c = search needs
+    let entered : tie.After-entry-at = search in
+    let start : tie.Start = search in
+    known-readable (start .pre) (entered .entry-at .ensures)
 
 returns : tie.Need-returns
 returns c =
-    let s = c .before .before .before .before .before .before .before .before .before .before in again-whole (s .args .sheet .now) (s .args .column) (s .args .work .now) (s .pre) _ (c .before .before .before .before .before .before .before .entry-at .ensures) _ _ (c .before .before .before .before .before .read-column .ensures) _ (c .before .got .given .1)
-
-same-length-2 : tie.Need-same-length-2
-same-length-2 c = search needs
+    let whole : tie.After-got = search in
+    let got : tie.After-read-column = search in
+    let entered : tie.After-entry-at = search in
+    let start : tie.Start = search in
+    again-whole (start .pre) (entered .entry-at .ensures) (got .read-column .ensures) (whole .got .given .1)
 
 returns-2 : tie.Need-returns-2
 returns-2 c =
-    let s = c .before .before .before .before .before .before .before .before .before in again-never (s .args .sheet .now) (s .args .column) (s .args .work .now) (s .pre) _ (c .before .before .before .before .before .before .entry-at .ensures) _ _ (c .before .before .before .before .read-column .ensures) _ (c .enum-told .given .1)
+    let got : tie.After-read-column = search in
+    let entered : tie.After-entry-at = search in
+    let start : tie.Start = search in
+    again-never (start .pre) (entered .entry-at .ensures) (got .read-column .ensures) (c .enum-told .given .1)
 
 pub read-again-spec : {M : Type 1} → statement M
 read-again-spec =
@@ -38,9 +34,9 @@ read-again-spec =
     (tie.spec
     entry-at-requires
     read-column-requires
-    enum-known-got
-    enum-told
-    same-length
+    (λ c. search needs)  -- enum-known-got
+    (λ c. search needs)  -- enum-told
+    (λ c. search needs)  -- same-length
     returns
-    same-length-2
+    (λ c. search needs)  -- same-length-2
     returns-2)

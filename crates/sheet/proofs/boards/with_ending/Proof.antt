@@ -1,29 +1,35 @@
 -- `with_ending` counts by one of three. Assumes nothing.
-use Rattle.sheet.proofs.Endings.{ends-passed, ends-never, ends-failed}
 use borrow.Author.Needs.{needs}
+use Rattle.sheet.proofs.Endings.{ends-passed, ends-never, ends-failed}
 use Rattle.sheet.proofs.boards.with_ending.Statement.{statement}
 use Rattle.sheet.proofs.boards.with_ending.Tie as tie
 
-add-passed : tie.Need-add-passed
-add-passed c = search needs
-
 returns : tie.Need-returns
 returns c =
-    ends-passed (c .before .before .args .tally) (c .before .before .args .ending) (c .before .if1 .taken)
-
-add-unended : tie.Need-add-unended
-add-unended c = search needs
+    let here : tie.Then1 = search in
+    let start : tie.Start = search in
+    ends-passed (start .args .tally) (start .args .ending) (here .if1 .taken)
 
 returns-2 : tie.Need-returns-2
 returns-2 c =
-    ends-never (c .before .before .before .args .tally) (c .before .before .before .args .ending) (c .before .if2 .taken)
-
-add-failed : tie.Need-add-failed
-add-failed c = search needs
+    let here : tie.Then2 = search in
+    let start : tie.Start = search in
+    ends-never (start .args .tally) (start .args .ending) (here .if2 .taken)
 
 returns-3 : tie.Need-returns-3
 returns-3 c =
-    ends-failed (c .before .before .before .args .tally) (c .before .before .before .args .ending) (c .before .before .if1 .left) (c .before .if2 .left) (c .before .before .before .pre .most)
+    let ended : tie.Else2 = search in
+    let failed : tie.Else1 = search in
+    let start : tie.Start = search in
+    ends-failed (start .args .tally) (start .args .ending) (failed .if1 .left) (ended .if2 .left) (start .pre .most)
 
 pub with-ending-spec : {M : Type 1} → statement M
-with-ending-spec = tie.close (tie.spec add-passed returns add-unended returns-2 add-failed returns-3)
+with-ending-spec =
+    tie.close
+    (tie.spec
+    (λ c. search needs)  -- add-passed
+    returns
+    (λ c. search needs)  -- add-unended
+    returns-2
+    (λ c. search needs)  -- add-failed
+    returns-3)

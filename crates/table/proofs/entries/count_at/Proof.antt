@@ -5,23 +5,19 @@ use Rattle.table.proofs.EntryLaws.{count-here}
 use Rattle.table.proofs.entries.count_at.Statement.{statement}
 use Rattle.table.proofs.entries.count_at.Tie as tie
 
-entry-start-requires : tie.Need-entry-start-requires
-entry-start-requires c κs = search needs
-
-add-word-at : tie.Need-add-word-at
-add-word-at c = search needs
-
-word-at-requires : tie.Need-word-at-requires
-word-at-requires c κs = search needs
-
-cast-result : tie.Need-cast-result
-cast-result c = search needs
-
 returns : tie.Need-returns
 returns c =
-    let a = c .before .before .before .before .args in
-    c .word-at .ensures ∙ count-here (a .sheet .now) (a .column) (c .before .before .before .before .pre .below) (c .before .before .entry-start .result .byte) (c .before .before .entry-start .ensures)
+    let word : tie.After-word-at = search in
+    let begun : tie.After-entry-start = search in
+    let from : tie.Start = search in
+    word .word-at .ensures ∙ count-here (from .args .sheet .now) (from .args .column) (from .pre .below) (begun .entry-start .ensures)
 
 pub count-at-spec : {M : Type 1} → statement M
 count-at-spec =
-    tie.close (tie.spec entry-start-requires add-word-at word-at-requires cast-result returns)
+    tie.close
+    (tie.spec
+    (λ c κs. search needs)  -- entry-start-requires
+    (λ c. search needs)  -- add-byte
+    (λ c κs. search needs)  -- word-at-requires
+    (λ c. search needs)  -- cast-result
+    returns)

@@ -2,48 +2,43 @@
 use Prim.Native.Nat.{_-_}
 use mathlib.Core.Path.{refl}
 use borrow.Author.Needs.{needs}
-use Rattle.meaning.specs.Sheet.{columnsOf}
-use Rattle.table.specs.Rules.{entryHolds}
-use Rattle.table.proofs.EntryLaws.{entries-turn, entries-fail, entries-end}
-use Rattle.table.proofs.Lists.{HoldBelow}
+use Rattle.table.proofs.EntryLaws.{EntriesSo, entries-turn, entries-fail, entries-end}
 use Rattle.table.proofs.entries.entries_hold.Statement.{statement}
 use Rattle.table.proofs.entries.entries_hold.Tie as tie
 
 abbrev Inv-loop : tie.InvT-loop
-Inv-loop sheet columns k₀ k = HoldBelow entryHolds (columnsOf sheet) k
+Inv-loop sheet columns k₀ k = EntriesSo sheet columns k
 
 abbrev μ-loop : tie.MeasureT-loop
 μ-loop sheet columns k₀ k = columns - k
 
-column-count-requires : tie.Need-column-count-requires Inv-loop μ-loop
-column-count-requires c κs = search needs
+-- a point of the program, found by its type
+abbrev At : (tie.InvT-loop → tie.MeasureT-loop → Type 0) → Type 0
+At point = point Inv-loop μ-loop
 
 loop-holds : tie.Need-loop-holds Inv-loop μ-loop
-loop-holds c = refl
-
-entry-holds-requires : tie.Need-entry-holds-requires Inv-loop μ-loop
-entry-holds-requires c κs = search needs
+loop-holds c =
+    let from : At tie.Start = search in
+    record { counted = record { whole = from .pre; so = c .column-count .ensures .0 }; below = refl }
 
 returns : tie.Need-returns Inv-loop μ-loop
 returns c =
-    let a = c .before .before .before .before .before .before .args in
-    entries-fail (a .sheet .now) (c .before .before .before .before .column-count .result) (c .before .before .before .before .column-count .ensures .0) (c .before .before .before .loop .k) (c .before .before .before .loop .inv) (c .before .before .loop-test .taken) (c .before .entry-holds .result) (c .before .entry-holds .ensures) (c .if1 .taken)
-
-add-k : tie.Need-add-k Inv-loop μ-loop
-add-k c = search needs
-
-loop-less : tie.Need-loop-less Inv-loop μ-loop
-loop-less c = search needs
+    let asked : At tie.After-entry-holds = search in
+    let tested : At tie.In-loop = search in
+    let turn : At tie.At-loop = search in
+    entries-fail (turn .loop .inv) (tested .loop-test .taken) (asked .entry-holds .ensures) (c .if1 .taken)
 
 loop-again : tie.Need-loop-again Inv-loop μ-loop
 loop-again c =
-    let a = c .before .before .before .before .before .before .args in
-    entries-turn (a .sheet .now) (c .before .before .before .before .column-count .result) (c .before .before .before .before .column-count .ensures .0) (c .before .before .before .loop .k) (c .before .before .before .loop .inv) (c .before .before .loop-test .taken) (c .before .entry-holds .result) (c .before .entry-holds .ensures) (c .if1 .left)
+    let asked : At tie.After-entry-holds = search in
+    let tested : At tie.In-loop = search in
+    let turn : At tie.At-loop = search in
+    entries-turn (turn .loop .inv) (tested .loop-test .taken) (asked .entry-holds .ensures) (c .if1 .left)
 
 returns-2 : tie.Need-returns-2 Inv-loop μ-loop
 returns-2 c =
-    let a = c .before .before .before .before .args in
-    entries-end (a .sheet .now) (c .before .before .column-count .result) (c .before .before .column-count .ensures .0) (c .before .loop .k) (c .before .loop .inv) (c .loop-test .left)
+    let turn : At tie.At-loop = search in
+    entries-end (turn .loop .inv) (c .loop-test .left)
 
 pub entries-hold-spec : {M : Type 1} → statement M
 entries-hold-spec =
@@ -51,11 +46,11 @@ entries-hold-spec =
     (tie.spec
     Inv-loop
     μ-loop
-    column-count-requires
+    (λ c κs. search needs)  -- column-count-requires
     loop-holds
-    entry-holds-requires
+    (λ c κs. search needs)  -- entry-holds-requires
     returns
-    add-k
-    loop-less
+    (λ c. search needs)  -- add-k
+    (λ c. search needs)  -- loop-less
     loop-again
     returns-2)

@@ -5,21 +5,24 @@ use Rattle.table.proofs.EntryLaws.{holds-not, holds-counted}
 use Rattle.table.proofs.entries.entry_holds.Statement.{statement}
 use Rattle.table.proofs.entries.entry_holds.Tie as tie
 
-kind-at-requires : tie.Need-kind-at-requires
-kind-at-requires c κs = search needs
-
 returns : tie.Need-returns
 returns c =
-    let a = c .before .before .before .args in
-    holds-not (columnAt (a .sheet .now) (a .column)) (c .before .kind-at .result) (c .before .kind-at .ensures) (c .if1 .taken)
-
-count-at-requires : tie.Need-count-at-requires
-count-at-requires c κs = search needs
+    let kinded : tie.After-kind-at = search in
+    let from : tie.Start = search in
+    holds-not (columnAt (from .args .sheet .now) (from .args .column)) (kinded .kind-at .ensures) (c .if1 .taken)
 
 returns-2 : tie.Need-returns-2
 returns-2 c =
-    let a = c .before .before .before .before .args in
-    holds-counted (columnAt (a .sheet .now) (a .column)) (c .before .before .kind-at .result) (c .before .before .kind-at .ensures) (c .before .if1 .left) (c .count-at .result) (c .count-at .ensures)
+    let passed : tie.Else1 = search in
+    let kinded : tie.After-kind-at = search in
+    let from : tie.Start = search in
+    holds-counted (columnAt (from .args .sheet .now) (from .args .column)) (kinded .kind-at .ensures) (passed .if1 .left) (c .count-at .ensures)
 
 pub entry-holds-spec : {M : Type 1} → statement M
-entry-holds-spec = tie.close (tie.spec kind-at-requires returns count-at-requires returns-2)
+entry-holds-spec =
+    tie.close
+    (tie.spec
+    (λ c κs. search needs)  -- kind-at-requires
+    returns
+    (λ c κs. search needs)  -- count-at-requires
+    returns-2)

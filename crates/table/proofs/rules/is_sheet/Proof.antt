@@ -6,31 +6,37 @@ use Rattle.table.proofs.rules.is_sheet.Tie as tie
 
 returns : tie.Need-returns
 returns c =
-    let a = c .before .args in
-    too-short (a .sheet .now) (c .if1 .taken)
+    let from : tie.Start = search in
+    too-short (from .args .sheet .now) (c .if1 .taken)
 
 returns-2 : tie.Need-returns-2
 returns-2 c =
-    let a = c .before .before .args in
-    too-long (a .sheet .now) (c .before .if1 .left) (c .if2 .taken)
-
-shared-slice-read-if3 : tie.Need-shared-slice-read-if3
-shared-slice-read-if3 c = search needs
+    let long : tie.Else1 = search in
+    let from : tie.Start = search in
+    too-long (from .args .sheet .now) (long .if1 .left) (c .if2 .taken)
 
 returns-3 : tie.Need-returns-3
 returns-3 c =
-    let a = c .before .before .before .before .args in
-    other-edition (a .sheet .now) (c .before .before .before .if1 .left) (c .before .before .if2 .left) (c .if3 .taken)
-
-shared-slice-read-result : tie.Need-shared-slice-read-result
-shared-slice-read-result c = search needs
+    let short : tie.Else2 = search in
+    let long : tie.Else1 = search in
+    let from : tie.Start = search in
+    other-edition (from .args .sheet .now) (long .if1 .left) (short .if2 .left) (c .if3 .taken)
 
 returns-4 : tie.Need-returns-4
 returns-4 c =
-    let a = c .before .before .before .before .before .args in
-    by-count (a .sheet .now) (c .before .before .before .before .if1 .left) (c .before .before .before .if2 .left) (c .before .if3 .left)
+    let ours : tie.Else3 = search in
+    let short : tie.Else2 = search in
+    let long : tie.Else1 = search in
+    let from : tie.Start = search in
+    by-count (from .args .sheet .now) (long .if1 .left) (short .if2 .left) (ours .if3 .left)
 
 pub is-sheet-spec : {M : Type 1} → statement M
 is-sheet-spec =
     tie.close
-    (tie.spec returns returns-2 shared-slice-read-if3 returns-3 shared-slice-read-result returns-4)
+    (tie.spec
+    returns
+    returns-2
+    (λ c. search needs)  -- shared-slice-read-if3
+    returns-3
+    (λ c. search needs)  -- shared-slice-read-result
+    returns-4)

@@ -7,41 +7,46 @@ use Rattle.table.proofs.rules.table_holds.Tie as tie
 
 column-count-requires : tie.Need-column-count-requires
 column-count-requires c κs =
-    let a = c .before .args in
-    is-sheet (a .sheet .now) (c .before .pre) .least
-
-entry-start-requires : tie.Need-entry-start-requires
-entry-start-requires c κs = search needs
+    let from : tie.Start = search in
+    is-sheet (from .args .sheet .now) (from .pre) .least
 
 returns : tie.Need-returns
 returns c =
-    let a = c .before .before .before .before .before .args in
-    table-short (a .sheet .now) (c .before .before .before .column-count .result) (c .before .before .before .column-count .ensures .0) (c .before .before .entry-start .result .byte) (c .before .before .entry-start .ensures) (c .if1 .taken)
-
-entries-hold-requires : tie.Need-entries-hold-requires
-entries-hold-requires c κs = search needs
+    let ended : tie.After-entry-start = search in
+    let counted : tie.After-column-count = search in
+    let from : tie.Start = search in
+    table-short (from .args .sheet .now) (counted .column-count .ensures .0) (ended .entry-start .ensures) (c .if1 .taken)
 
 returns-2 : tie.Need-returns-2
 returns-2 c =
-    let a = c .before .before .before .before .before .before .before .args in
-    table-broken (a .sheet .now) (c .before .before .before .before .before .column-count .result) (c .before .before .before .before .before .column-count .ensures .0) (c .before .before .before .before .entry-start .result .byte) (c .before .before .before .before .entry-start .ensures) (c .before .before .if1 .left) (c .before .entries-hold .result) (c .before .entries-hold .ensures) (c .if2 .taken)
-
-body-start-requires : tie.Need-body-start-requires
-body-start-requires c κs = search needs
+    let asked : tie.After-entries-hold = search in
+    let whole : tie.Else1 = search in
+    let ended : tie.After-entry-start = search in
+    let counted : tie.After-column-count = search in
+    let from : tie.Start = search in
+    table-broken (from .args .sheet .now) (counted .column-count .ensures .0) (ended .entry-start .ensures) (whole .if1 .left)
+    (asked .entries-hold .ensures) (c .if2 .taken)
 
 returns-3 : tie.Need-returns-3
 returns-3 c =
-    let a = c .before .before .before .before .before .before .before .before .before .args in
-    table-filled (a .sheet .now) (c .before .before .before .before .before .before .before .column-count .result) (c .before .before .before .before .before .before .before .column-count .ensures .0) (c .before .before .before .before .before .before .entry-start .result .byte) (c .before .before .before .before .before .before .entry-start .ensures) (c .before .before .before .before .if1 .left) (c .before .before .before .entries-hold .result) (c .before .before .before .entries-hold .ensures) (c .before .before .if2 .left) (c .before .body-start .result .byte) (c .before .body-start .ensures)
+    let filled : tie.After-body-start = search in
+    let hold : tie.Else2 = search in
+    let asked : tie.After-entries-hold = search in
+    let whole : tie.Else1 = search in
+    let ended : tie.After-entry-start = search in
+    let counted : tie.After-column-count = search in
+    let from : tie.Start = search in
+    table-filled (from .args .sheet .now) (counted .column-count .ensures .0) (ended .entry-start .ensures) (whole .if1 .left)
+    (asked .entries-hold .ensures) (hold .if2 .left) (filled .body-start .ensures)
 
 pub table-holds-spec : {M : Type 1} → statement M
 table-holds-spec =
     tie.close
     (tie.spec
     column-count-requires
-    entry-start-requires
+    (λ c κs. search needs)  -- entry-start-requires
     returns
-    entries-hold-requires
+    (λ c κs. search needs)  -- entries-hold-requires
     returns-2
-    body-start-requires
+    (λ c κs. search needs)  -- body-start-requires
     returns-3)

@@ -1,135 +1,83 @@
 -- `put_sheet` has laid the columns below k. Assumes nothing.
 use Prim.Native.Nat.{_-_}
-use mathlib.Core.Path.{refl, _∙_}
 use native.Mathlib.Omega.{arith}
 use borrow.Author.Needs.{needs}
-use Rattle.writer.proofs.Passes.{plan-within, used-size, Passing, passing-start, passing-fits, passing-adds, passing-turn, passing-over, passing-end}
+use Rattle.writer.proofs.Passes.{Passing, passing-start, passing-list, passing-adds, passing-room, passing-turn, passing-over, passing-end}
 use Rattle.writer.proofs.sheets.put_sheet.Statement.{statement}
 use Rattle.writer.proofs.sheets.put_sheet.Tie as tie
 
 abbrev Inv-loop : tie.InvT-loop
 Inv-loop kinds plans counts joined work₀ out₀ n at₀ from₀ k₀ work out at from k =
-    Passing kinds plans counts joined work₀ out₀ n work out at from k
+    Passing kinds plans counts joined work₀ out₀ n work out (at .byte) from k
 
 abbrev μ-loop : tie.MeasureT-loop
 μ-loop kinds plans counts joined work₀ out₀ n at₀ from₀ k₀ work out at from k =
     n - k
 
-put-requires : tie.Need-put-requires Inv-loop μ-loop
-put-requires c κs = search needs
+-- a point of the program, found by its type
+abbrev At : (tie.InvT-loop → tie.MeasureT-loop → Type 0) → Type 0
+At point = point Inv-loop μ-loop
 
-byte-of-requires : tie.Need-byte-of-requires Inv-loop μ-loop
-byte-of-requires c κs =
-    omega (arith, c .before .before .before .before .before .before .before .before .before .before .before .pre .0 .few)
-
-put-requires-2 : tie.Need-put-requires-2 Inv-loop μ-loop
-put-requires-2 c κs = search needs
-
-mul-at : tie.Need-mul-at Inv-loop μ-loop
-mul-at c =
-    omega (arith, c .before .before .before .before .before .before .before .before .before .before .before .before .before .before .before .pre .0 .few)
-
-add-at : tie.Need-add-at Inv-loop μ-loop
-add-at c =
-    omega (arith, c .before .before .before .before .before .before .before .before .before .before .before .before .before .before .before .pre .0 .few)
-
+-- ---- before the loop
 loop-holds : tie.Need-loop-holds Inv-loop μ-loop
 loop-holds c =
-    let a = c .before .before .before .before .before .before .before .before .before .before .before .before .before .before .before .args in passing-start (a .kinds .now) (a .plans .now) (a .counts .now) (a .joined .now) (c .before .before .before .before .before .before .before .before .before .before .before .before .before .before .before .pre .0) (a .work .now) (c .before .before .put2 .last .0) _ refl
+    let start : At tie.Start = search in
+    passing-start (start .pre .0) (start .pre .1) (c .entry-start .ensures)
 
-shared-slice-read-kind : tie.Need-shared-slice-read-kind Inv-loop μ-loop
-shared-slice-read-kind c =
-    omega arith
+-- ---- a turn
+copy-list-requires : tie.Need-copy-list-requires Inv-loop μ-loop
+copy-list-requires c κs =
+    let counted : At tie.After-whole = search in
+    let turn : At tie.In-loop = search in
+    passing-list (turn .before .loop .inv) (turn .loop-test .taken) (counted .whole .ensures .0)
 
-mul-count : tie.Need-mul-count Inv-loop μ-loop
-mul-count c = search needs
-
-shared-slice-read-count : tie.Need-shared-slice-read-count Inv-loop μ-loop
-shared-slice-read-count c =
-    omega (arith, c .before .before .before .before .before .before .before .before .before .before .before .before .before .before .before .before .before .before .before .pre .0 .counted)
-
-amount-of-requires : tie.Need-amount-of-requires Inv-loop μ-loop
-amount-of-requires c κs = search needs
-
-mul-used-plan : tie.Need-mul-used-plan Inv-loop μ-loop
-mul-used-plan c =
-    omega (arith, c .before .before .before .before .before .before .before .before .before .before .before .before .before .before .before .before .before .before .before .before .pre .0 .few)
-
-used-plan-requires : tie.Need-used-plan-requires Inv-loop μ-loop
-used-plan-requires c κs =
-    let a = c .before .before .before .before .before .before .before .before .before .before .before .before .before .before .before .before .before .before .before .before .args in plan-within (a .kinds .now) (a .plans .now) (a .counts .now) (a .joined .now) (c .before .before .before .before .before .before .before .before .before .before .before .before .before .before .before .before .before .before .before .before .pre .0) (c .before .before .before .before .loop .k) (c .before .before .before .loop-test .taken)
-
-slice-aggregate-put-body : tie.Need-slice-aggregate-put-body Inv-loop μ-loop
-slice-aggregate-put-body c = search needs
-
-put-body-requires : tie.Need-put-body-requires Inv-loop μ-loop
-put-body-requires c κs =
-    let a = c .before .before .before .before .before .before .before .before .before .before .before .before .before .before .before .before .before .before .before .before .before .before .before .before .args in passing-fits (a .kinds .now) (a .plans .now) (a .counts .now) (a .joined .now) (c .before .before .before .before .before .before .before .before .before .before .before .before .before .before .before .before .before .before .before .before .before .before .before .before .pre .0) (a .work .now) _ _ refl _ _ _ _ (c .before .before .before .before .before .before .before .before .loop .k) (c .before .before .before .before .before .before .before .before .loop .inv) (c .before .before .before .before .before .before .before .loop-test .taken) _ (c .before .before .before .before .amount-of .ensures .0) (c .before .before .before .before .before .before .before .before .before .before .before .before .before .before .before .before .before .before .before .before .before .before .before .before .pre .1)
-
-same-length : tie.Need-same-length Inv-loop μ-loop
-same-length c =
-    c .before .before .before .before .work .given ∙ c .before .before .before .before .before .before .before .before .before .before .before .before .before .before .loop .inv .workLong
+put-column-requires : tie.Need-put-column-requires Inv-loop μ-loop
+put-column-requires c κs =
+    let slot : At tie.After-entry-start2 = search in
+    let copied : At tie.After-work = search in
+    let planned : At tie.After-used-plan = search in
+    let counted : At tie.After-whole = search in
+    let turn : At tie.In-loop = search in
+    passing-room (turn .before .loop .inv) (turn .loop-test .taken) (counted .whole .ensures .0) (planned .used-plan .ensures)
+    (copied .work .given) (slot .entry-start2 .ensures)
 
 same-length-2 : tie.Need-same-length-2 Inv-loop μ-loop
-same-length-2 c =
-    c .before .before .out3 .given ∙ c .before .before .before .before .before .before .before .before .before .before .before .before .before .before .loop .inv .outLong ∙ c .before .before .before .before .before .before .before .before .before .before .before .before .before .before .before .before .out2 .given ∙ c .before .before .before .before .before .before .before .before .before .before .before .before .before .before .before .before .before .before .before .before .before .out .given
+same-length-2 c = let turn : At tie.In-loop = search in search needs
 
 returns : tie.Need-returns Inv-loop μ-loop
 returns c =
-    let a = c .before .before .before .before .before .before .before .before .before .before .before .before .before .before .before .before .before .before .before .before .before .before .before .before .before .before .before .before .before .before .args in passing-over (a .kinds .now) (a .plans .now) (a .counts .now) (a .joined .now) (c .before .before .before .before .before .before .before .before .before .before .before .before .before .before .before .before .before .before .before .before .before .before .before .before .before .before .before .before .before .before .pre .0) (a .work .now) _ _ refl _ _ _ _ (c .before .before .before .before .before .before .before .before .before .before .before .before .before .before .loop .k) (c .before .before .before .before .before .before .before .before .before .before .before .before .before .before .loop .inv) (c .before .before .before .before .before .before .before .before .before .before .before .before .before .loop-test .taken) _ (c .before .before .before .before .before .before .before .before .before .before .amount-of .ensures .0) _ (c .before .before .before .before .before .before .before .before .before .used-plan .ensures) _ (c .before .before .before .before .before .put-body .result) (c .before .before .before .before .before .put-body .ensures) (c .if1 .taken) (a .out .now)
-
-mul-slot : tie.Need-mul-slot Inv-loop μ-loop
-mul-slot c =
-    omega (arith, c .before .before .before .before .before .before .before .before .before .before .before .before .before .before .before .before .before .before .before .before .before .before .before .before .before .before .before .before .before .before .pre .0 .few)
-
-add-slot : tie.Need-add-slot Inv-loop μ-loop
-add-slot c =
-    omega (arith, c .before .before .before .before .before .before .before .before .before .before .before .before .before .before .before .before .before .before .before .before .before .before .before .before .before .before .before .before .before .before .pre .0 .few)
-
-sub-word-of : tie.Need-sub-word-of Inv-loop μ-loop
-sub-word-of c =
-    omega (arith, c .before .before .before .before .before .put-body .ensures .ends)
-
-word-of-requires : tie.Need-word-of-requires Inv-loop μ-loop
-word-of-requires c κs =
-    omega arith
-
-slice-aggregate-put-entry : tie.Need-slice-aggregate-put-entry Inv-loop μ-loop
-slice-aggregate-put-entry c = search needs
-
-put-entry-requires : tie.Need-put-entry-requires Inv-loop μ-loop
-put-entry-requires c κs =
-    let a = c .before .before .before .before .before .before .before .before .before .before .before .before .before .before .before .before .before .before .before .before .before .before .before .before .before .before .before .before .before .before .before .before .before .args in (omega (arith, c .before .before .before .before .before .before .before .before .before .before .before .before .before .before .before .before .before .before .before .before .before .before .before .before .before .before .before .before .before .before .before .before .before .pre .0 .few), used-size (a .kinds .now) (a .plans .now) (a .counts .now) (a .joined .now) (c .before .before .before .before .before .before .before .before .before .before .before .before .before .before .before .before .before .before .before .before .before .before .before .before .before .before .before .before .before .before .before .before .before .pre .0) (c .before .before .before .before .before .before .before .before .before .before .before .before .before .before .before .before .before .loop .k) (c .before .before .before .before .before .before .before .before .before .before .before .before .before .before .before .before .loop-test .taken) _ (c .before .before .before .before .before .before .before .before .before .before .before .before .used-plan .ensures))
+    let put : At tie.After-put-column = search in
+    let copied : At tie.After-copy-list = search in
+    let planned : At tie.After-used-plan = search in
+    let counted : At tie.After-whole = search in
+    let turn : At tie.In-loop = search in
+    passing-over (turn .before .loop .inv) (turn .loop-test .taken) (counted .whole .ensures .0) (planned .used-plan .ensures)
+    (copied .copy-list .ensures) (put .put-column .ensures) (c .if1 .taken)
 
 add-from : tie.Need-add-from Inv-loop μ-loop
 add-from c =
-    let a = c .before .before .before .before .before .before .before .before .before .before .before .before .before .before .before .before .before .before .before .before .before .before .before .before .before .before .before .before .before .before .before .before .before .before .before .before .args in
-    omega (arith, passing-adds (a .kinds .now) (a .plans .now) (a .counts .now) (a .joined .now) (c .before .before .before .before .before .before .before .before .before .before .before .before .before .before .before .before .before .before .before .before .before .before .before .before .before .before .before .before .before .before .before .before .before .before .before .before .pre .0) (a .work .now) _ _ refl _ _ _ _ (c .before .before .before .before .before .before .before .before .before .before .before .before .before .before .before .before .before .before .before .before .loop .k) (c .before .before .before .before .before .before .before .before .before .before .before .before .before .before .before .before .before .before .before .before .loop .inv) (c .before .before .before .before .before .before .before .before .before .before .before .before .before .before .before .before .before .before .before .loop-test .taken) _ (c .before .before .before .before .before .before .before .before .before .before .before .before .before .before .before .before .amount-of .ensures .0))
-
-add-k : tie.Need-add-k Inv-loop μ-loop
-add-k c =
-    omega (arith, c .before .before .before .before .before .before .before .before .before .before .before .before .before .before .before .before .before .before .before .before .before .before .before .before .before .before .before .before .before .before .before .before .before .before .before .before .pre .0 .few)
-
-loop-less : tie.Need-loop-less Inv-loop μ-loop
-loop-less c =
-    omega arith
+    let counted : At tie.After-whole = search in
+    let turn : At tie.In-loop = search in
+    omega (arith, passing-adds (turn .before .loop .inv) (turn .loop-test .taken) (counted .whole .ensures .0))
 
 loop-again : tie.Need-loop-again Inv-loop μ-loop
 loop-again c =
-    let a = c .before .before .before .before .before .before .before .before .before .before .before .before .before .before .before .before .before .before .before .before .before .before .before .before .before .before .before .before .before .before .before .before .before .before .before .before .args in
-    passing-turn (a .kinds .now) (a .plans .now) (a .counts .now) (a .joined .now) (c .before .before .before .before .before .before .before .before .before .before .before .before .before .before .before .before .before .before .before .before .before .before .before .before .before .before .before .before .before .before .before .before .before .before .before .before .pre .0) (a .work .now) _ _ refl _ _ _ _ (c .before .before .before .before .before .before .before .before .before .before .before .before .before .before .before .before .before .before .before .before .loop .k) (c .before .before .before .before .before .before .before .before .before .before .before .before .before .before .before .before .before .before .before .before .loop .inv) (c .before .before .before .before .before .before .before .before .before .before .before .before .before .before .before .before .before .before .before .loop-test .taken) _ (c .before .before .before .before .before .before .before .before .before .before .before .before .before .before .before .before .amount-of .ensures .0) _ (c .before .before .before .before .before .before .before .before .before .before .before .before .before .before .before .used-plan .ensures) _ (c .before .before .before .before .before .before .before .before .before .before .before .put-body .result) (c .before .before .before .before .before .before .before .before .before .before .before .put-body .ensures) (c .before .before .before .before .before .before .if1 .left) _ (c .before .before .before .before .before .word-of .ensures) _ _ (c .before .before .put-entry .ensures) (c .before .before .before .before .before .before .before .before .before .before .work .given) (c .before .before .before .before .before .before .before .before .out3 .given) (c .before .out4 .given)
+    let put : At tie.After-put-column = search in
+    let slot : At tie.After-entry-start2 = search in
+    let copied : At tie.After-copy-list = search in
+    let planned : At tie.After-used-plan = search in
+    let counted : At tie.After-whole = search in
+    let turn : At tie.In-loop = search in
+    passing-turn (turn .before .loop .inv) (turn .loop-test .taken) (counted .whole .ensures .0) (planned .used-plan .ensures)
+    (copied .copy-list .ensures) (put .put-column .ensures) (slot .entry-start2 .ensures) (c .if1 .left) (search needs) (search needs)
 
-same-length-3 : tie.Need-same-length-3 Inv-loop μ-loop
-same-length-3 c =
-    c .before .loop .inv .workLong
-
-same-length-4 : tie.Need-same-length-4 Inv-loop μ-loop
-same-length-4 c =
-    c .before .loop .inv .outLong ∙ c .before .before .before .out2 .given ∙ c .before .before .before .before .before .before .before .before .out .given
-
+-- ---- after the loop
 returns-2 : tie.Need-returns-2 Inv-loop μ-loop
 returns-2 c =
-    let a = c .before .before .before .before .before .before .before .before .before .before .before .before .before .before .before .before .before .args in passing-end (a .kinds .now) (a .plans .now) (a .counts .now) (a .joined .now) (c .before .before .before .before .before .before .before .before .before .before .before .before .before .before .before .before .before .pre .0) (a .work .now) _ _ refl _ _ _ _ _ (c .before .loop .inv) (c .loop-test .left) (a .out .now) _ _ (c .before .before .before .before .before .before .before .before .before .put .ensures) (c .before .before .before .before .before .byte-of .ensures) (c .before .before .before .before .put2 .ensures)
+    let number : At tie.After-put2 = search in
+    let made : At tie.After-byte-of = search in
+    let edition : At tie.After-put = search in
+    passing-end (c .before .loop .inv) (c .loop-test .left) (edition .put .ensures) (made .byte-of .ensures) (number .put2 .ensures)
 
 pub put-sheet-spec : {M : Type 1} → statement M
 put-sheet-spec =
@@ -137,33 +85,28 @@ put-sheet-spec =
     (tie.spec
     Inv-loop
     μ-loop
-    put-requires
-    byte-of-requires
-    put-requires-2
-    mul-at
-    add-at
+    (λ c κs. search needs)  -- put-requires
+    (λ c κs. search needs)  -- byte-of-requires
+    (λ c κs. search needs)  -- put-requires-2
+    (λ c κs. search needs)  -- entry-start-requires
     loop-holds
-    shared-slice-read-kind
-    mul-count
-    shared-slice-read-count
-    amount-of-requires
-    mul-used-plan
-    used-plan-requires
-    slice-aggregate-put-body
-    put-body-requires
-    same-length
+    (λ c. search needs)  -- shared-slice-read-kind
+    (λ c. search needs)  -- mul-whole
+    (λ c. search needs)  -- shared-slice-read-whole
+    (λ c κs. search needs)  -- whole-requires
+    (λ c. search needs)  -- mul-first
+    (λ c κs. search needs)  -- used-plan-requires
+    copy-list-requires
+    (λ c κs. search needs)  -- entry-start-requires-2
+    (λ c. search needs)  -- slice-aggregate-put-column
+    put-column-requires
+    (λ c. search needs)  -- same-length
     same-length-2
     returns
-    mul-slot
-    add-slot
-    sub-word-of
-    word-of-requires
-    slice-aggregate-put-entry
-    put-entry-requires
     add-from
-    add-k
-    loop-less
+    (λ c. search needs)  -- add-k
+    (λ c. search needs)  -- loop-less
     loop-again
-    same-length-3
-    same-length-4
+    (λ c. search needs)  -- same-length-3
+    (λ c. search needs)  -- same-length-4
     returns-2)
