@@ -1,4 +1,4 @@
-# `make` proves the two programs, a line a crate, and shows the board and the listing of a sample night, `make test` is the gate, `make lib` writes the C library
+# `make` proves the two programs, a line a crate, and shows the board of a sample night and how its listing begins, `make test` is the gate, `make lib` writes the C library
 # (target/staticlib/libcapi.a for include/pelluvion.h), `make bench` counts what it costs beside plain C.
 .PHONY: all test lib bench
 
