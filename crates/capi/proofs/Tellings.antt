@@ -5,7 +5,7 @@ use mathlib.Core.List.{List}
 use Rattle.meaning.specs.Answer.{Answer, given, refused, number, amount, filled, Verdict, passed, blamed}
 use Rattle.meaning.specs.Operations.{noTally}
 use Rattle.meaning.specs.declared.Tally.{Tally}
-use Rattle.capi.specs.Told.{value, refusal, faulty, Tells, Fills, Blames, Tallies}
+use Rattle.capi.specs.Told.{value, refusal, faulty, Tells, TellsList, Blames, Tallies}
 
 -- ---- one number
 module _ (a : Answer ℕ) where
@@ -22,10 +22,10 @@ of-amount (given xs) = refl
 of-amount (refused e) = refl
 
 module _ (a : Answer (List ℕ)) (out out′ : List ℕ) (here : out′ ≡ filled a out) where
-  pub fills-given : (n : ℕ) → given n ≡ amount a → Fills a 0 n out out′
+  pub fills-given : (n : ℕ) → given n ≡ amount a → TellsList a 0 n out out′
   fills-given n e = record { returned = ap number e ∙ of-amount a; told = ap value e; here = here }
 
-  pub fills-refused : (e r : ℕ) → refused e ≡ amount a → r ≡ e → Fills a r 0 out out′
+  pub fills-refused : (e r : ℕ) → refused e ≡ amount a → r ≡ e → TellsList a r 0 out out′
   fills-refused e r q h = record { returned = h ∙ ap number q ∙ of-amount a; told = ap value q; here = here }
 
 -- ---- a verdict

@@ -6,7 +6,7 @@ use lib.ListN.{length}
 use Rattle.meaning.specs.Answer.{Answer, number}
 use Rattle.meaning.specs.Operations.{writeApart, check, readSheet, lookSheet, countBoard}
 use Rattle.meaning.specs.Plan.{judge, worstSize}
-use Rattle.capi.specs.Told.{Tells, Fills, Blames, Tallies, Fetches}
+use Rattle.capi.specs.Told.{Tells, TellsList, Blames, Tallies, Fetches}
 
 -- ---- by what is told
 module _ (a : Answer ℕ) (r r′ n n′ : ℕ) where
@@ -14,7 +14,7 @@ module _ (a : Answer ℕ) (r r′ n n′ : ℕ) where
   one-tells e f = (e .returned ∙ sym (f .returned), e .told ∙ sym (f .told))
 
 module _ (a : Answer (List ℕ)) (r r′ n n′ : ℕ) (out out₁ out₂ : List ℕ) where
-  one-fills : Fills a r n out out₁ → Fills a r′ n′ out out₂ → (r ≡ r′) × (n ≡ n′) × (out₁ ≡ out₂)
+  one-fills : TellsList a r n out out₁ → TellsList a r′ n′ out out₂ → (r ≡ r′) × (n ≡ n′) × (out₁ ≡ out₂)
   one-fills e f = (e .returned ∙ sym (f .returned), e .told ∙ sym (f .told), e .here ∙ sym (f .here))
 
 -- ---- the exported functions
@@ -25,8 +25,8 @@ pub one-worst : (plan : List ℕ) (n r r′ size size′ : ℕ) → Tells (worst
 one-worst plan n = one-tells (worstSize plan n)
 
 pub one-write : (kinds plans counts numbers : List ℕ) (work r r′ size size′ : ℕ) (out out₁ out₂ : List ℕ)
-    → Fills (writeApart kinds plans counts numbers work (length out)) r size out out₁
-    → Fills (writeApart kinds plans counts numbers work (length out)) r′ size′ out out₂
+    → TellsList (writeApart kinds plans counts numbers work (length out)) r size out out₁
+    → TellsList (writeApart kinds plans counts numbers work (length out)) r′ size′ out out₂
     → (r ≡ r′) × (size ≡ size′) × (out₁ ≡ out₂)
 one-write kinds plans counts numbers work r r′ size size′ out =
     one-fills (writeApart kinds plans counts numbers work (length out)) r r′ size size′ out
@@ -35,8 +35,8 @@ pub one-check : (sheet : List ℕ) (work r r′ k k′ : ℕ) → Blames (check 
 one-check sheet work r r′ k k′ e f = (e .returned ∙ sym (f .returned), e .blamed ∙ sym (f .blamed))
 
 pub one-read : (sheet : List ℕ) (k work r r′ n n′ : ℕ) (out out₁ out₂ : List ℕ)
-    → Fills (readSheet sheet k work (length out)) r n out out₁
-    → Fills (readSheet sheet k work (length out)) r′ n′ out out₂
+    → TellsList (readSheet sheet k work (length out)) r n out out₁
+    → TellsList (readSheet sheet k work (length out)) r′ n′ out out₂
     → (r ≡ r′) × (n ≡ n′) × (out₁ ≡ out₂)
 one-read sheet k work r r′ n n′ out = one-fills (readSheet sheet k work (length out)) r r′ n n′ out
 

@@ -28,7 +28,7 @@ pub record Tells (a : Answer ℕ) (r n : ℕ) : Type 0 where
   pub told : n ≡ value a
 
 -- a list goes to the start of an output, and how long it is is told; after a refusal the output is as it was
-pub record Fills (a : Answer (List ℕ)) (r n : ℕ) (out out′ : List ℕ) : Type 0 where
+pub record TellsList (a : Answer (List ℕ)) (r n : ℕ) (out out′ : List ℕ) : Type 0 where
   pub returned : r ≡ number a
   pub told : n ≡ value (amount a)
   pub here : out′ ≡ filled a out

@@ -21,7 +21,7 @@ ghost use lib.ListN.{length};
 ghost use Rattle.meaning.specs.Answer.{number};
 ghost use Rattle.meaning.specs.Operations.{check as checkOf, countBoard, lookSheet, readSheet, writeApart};
 ghost use Rattle.meaning.specs.Plan.{judge as judgeOf, worstSize};
-ghost use Rattle.capi.specs.Told.{Tells, Fills, Blames, Tallies, Fetches};
+ghost use Rattle.capi.specs.Told.{Tells, TellsList, Blames, Tallies, Fetches};
 
 // Nothing was refused.
 const ACCEPTED: u32 = 0;
@@ -67,7 +67,7 @@ pub extern "C" fn pelluvion_write(
     out: &mut [u8],
     size: &mut usize,
 ) -> u32
-    ensures { λ r. ⌜ Fills (writeApart (now (kinds .entry)) (now (plans .entry)) (now (counts .entry)) (now (joined .entry)) (length (now (work .entry))) (length (now (out .entry)))) r (now (size .exit)) (now (out .entry)) (now (out .exit)) ⌝ }
+    ensures { λ r. ⌜ TellsList (writeApart (now (kinds .entry)) (now (plans .entry)) (now (counts .entry)) (now (joined .entry)) (length (now (work .entry))) (length (now (out .entry)))) r (now (size .exit)) (now (out .entry)) (now (out .exit)) ⌝ }
 {
     let written = write(kinds, plans, counts, joined, work, out);
     match written {
@@ -109,7 +109,7 @@ pub extern "C" fn pelluvion_read(
     out: &mut [u32],
     count: &mut usize,
 ) -> u32
-    ensures { λ r. ⌜ Fills (readSheet (now (sheet .entry)) column (length (now (work .entry))) (length (now (out .entry)))) r (now (count .exit)) (now (out .entry)) (now (out .exit)) ⌝ }
+    ensures { λ r. ⌜ TellsList (readSheet (now (sheet .entry)) column (length (now (work .entry))) (length (now (out .entry)))) r (now (count .exit)) (now (out .entry)) (now (out .exit)) ⌝ }
 {
     let got = read(sheet, column, work, out);
     match got {

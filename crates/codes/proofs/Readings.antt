@@ -10,7 +10,7 @@ use lib.ListN.{length, getD, take, drop}
 use lib.Seq.{sets, take-all, getD-take, getD-drop}
 use Rattle.meaning.specs.Answer.{Answer, given, refused, bind, amount}
 use Rattle.meaning.specs.Codes.{codeOf, readCode}
-use Rattle.meaning.specs.Fields.{byteLength}
+use Rattle.meaning.specs.DataBytes.{byteLength}
 use Rattle.meaning.specs.Limits.{fault}
 use Rattle.meaning.specs.Places.{Below, Spare, Target, Got}
 use Rattle.meaning.specs.Units.{readUnits}

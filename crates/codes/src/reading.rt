@@ -7,10 +7,10 @@ use crate::dispatch::take_units;
 use crate::stretch::or_unit;
 use crate::stretch::start_refusal;
 use crate::stretch::went_refusal;
-use fields::byte_length;
 use meaning::FAULT;
 use meaning::Place;
 use meaning::Reading;
+use words::byte_length;
 ghost use Rattle.meaning.specs.Codes.{codeOf, readCode};
 ghost use Rattle.meaning.specs.Places.{Target, Got};
 

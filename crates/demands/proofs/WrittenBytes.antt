@@ -20,7 +20,7 @@ use Rattle.meaning.proofs.Bounds.{below-nil, below-cons, below-append}
 use Rattle.meaning.proofs.Tests.{both-true, by-order}
 use Rattle.codes.proofs.Numbered.{laws}
 use Rattle.stages.proofs.Most.{bytes}
-use Rattle.fields.proofs.Words.{word-small}
+use Rattle.words.proofs.Words.{word-small}
 use Rattle.writer.specs.Orders.{blankListed, entryLaid}
 use Rattle.writer.proofs.Laying.{sheet-is}
 use Rattle.demands.proofs.Passing.{Writable, AllWritable}

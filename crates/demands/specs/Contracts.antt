@@ -1,13 +1,6 @@
--- What each public operation may answer: the very equations of its `ensures`, as proofs/Contracts.antt has the checker see. None has a `requires`.
--- `o` is what an output held; where an operation has one, its answer stands in a pair with what the output holds afterwards.
-use Prim.Native.Nat.{ℕ}
-use mathlib.Core.Path.{_≡_}
-use mathlib.Core.List.{List}
-use lib.ListN.{length}
-use Rattle.meaning.specs.Answer.{Answer, number, list, amount, filled}
-use Rattle.meaning.specs.Operations.{Order, writeSheet, writeApart, check, readSheet, lookSheet, fetch, openReader, countBoard}
-use Rattle.meaning.specs.Plan.{judge, worstSize}
-use Rattle.meaning.specs.Says.{judgedSays, sizedSays, readingSays, foundSays, checkedSays, countedSays}
+-- What each public operation may answer, in one place: the meaning's contracts and the reader's two. proofs/Contracts.antt has the checker see that these are
+-- what is proved of the functions.
+pub use Rattle.meaning.specs.Contracts.{Judges, Sizes, Fills, Writes, WritesApart, Checks, Reads, Looks, Counts, Fetches}
 -- the types of answers, and the answers that accept, for those who name them beside the contracts
 pub use Rattle.meaning.specs.declared.Judged.{Judged}
 pub use Rattle.meaning.specs.declared.Sized.{Sized}
@@ -19,53 +12,5 @@ pub use Rattle.meaning.specs.declared.Found.the-variants.{Number}
 pub use Rattle.meaning.specs.declared.Checked.{Checked}
 pub use Rattle.meaning.specs.declared.Checked.the-variants.{Passed}
 pub use Rattle.meaning.specs.declared.Counted.{Counted}
-pub use Rattle.reader.specs.Steps.{Standing, opened, answer, standing, moved}
+pub use Rattle.reader.specs.Steps.{Standing, opened, answer, standing, moved, Opens, Steps}
 pub use Rattle.reader.specs.declared.Reader.{Reader}
-
--- judge::judge
-abbrev pub Judges : ℕ → List ℕ → Judged → Type 0
-Judges kind plan r = judgedSays r ≡ judge kind plan
-
--- judge::worst_size
-abbrev pub Sizes : List ℕ → ℕ → Sized → Type 0
-Sizes plan n r = sizedSays r ≡ worstSize plan n
-
--- how many bytes or numbers of m a call says, and what it leaves in its output
-abbrev pub Fills : Answer (List ℕ) → List ℕ → Answer ℕ → List ℕ → Type 0
-Fills m o says o′ = (says ≡ amount m) × (o′ ≡ filled m o)
-
--- orders::write; `orderSays` takes the orders of the source over field by field
-abbrev pub Writes : List Order → List ℕ → List ℕ → List ℕ → Sized × List ℕ → Type 0
-Writes orders joined work o a = Fills (writeSheet orders joined (length work) (length o)) o (sizedSays (a .0)) (a .1)
-
--- writer::write, on orders taken apart
-abbrev pub WritesApart : List ℕ → List ℕ → List ℕ → List ℕ → List ℕ → List ℕ → Sized × List ℕ → Type 0
-WritesApart kinds plans counts joined work o a = Fills (writeApart kinds plans counts joined (length work) (length o)) o (sizedSays (a .0)) (a .1)
-
--- sheet::check
-abbrev pub Checks : List ℕ → List ℕ → Checked → Type 0
-Checks sheet work r = checkedSays r ≡ check sheet (length work)
-
--- sheet::read
-abbrev pub Reads : List ℕ → ℕ → List ℕ → List ℕ → Reading × List ℕ → Type 0
-Reads sheet k work o a = Fills (readSheet sheet k (length work) (length o)) o (readingSays (a .0)) (a .1)
-
--- sheet::lookup
-abbrev pub Looks : List ℕ → ℕ → ℕ → Found → Type 0
-Looks sheet k place r = foundSays r ≡ lookSheet sheet k place
-
--- sheet::board
-abbrev pub Counts : List ℕ → List ℕ → Counted → Type 0
-Counts sheet work r = countedSays r ≡ countBoard sheet (length work)
-
--- table::fetch: a part of the sheet, and the refusal's number
-abbrev pub Fetches : List ℕ → ℕ → List ℕ × ℕ → Type 0
-Fetches sheet k a = (a .0 ≡ list (fetch sheet k)) × (a .1 ≡ number (fetch sheet k))
-
--- reader::open: the part, the column and the place that a reader stands on, and the refusal's number
-abbrev pub Opens : List ℕ → ℕ → Standing × ℕ → Type 0
-Opens sheet k a = (a .0 ≡ opened sheet k) × (a .1 ≡ number (openReader sheet k))
-
--- reader::step: the answer, and the reader that is left
-abbrev pub Steps : Reader → Found × Reader → Type 0
-Steps r a = (foundSays (a .0) ≡ answer (standing r)) × (a .1 ≡ moved r)

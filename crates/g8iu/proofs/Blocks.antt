@@ -8,11 +8,11 @@ use lib.ListN.{length, replicate, length-append, length-replicate}
 use borrow.Author.Tests.{le-leb, leb-true, leb-false}
 use Rattle.meaning.specs.Lists.{sum, joined}
 use Rattle.meaning.specs.Places.{Below}
-use Rattle.meaning.specs.Fields.{byteLength, fewest, fields}
+use Rattle.meaning.specs.DataBytes.{byteLength, fewest, dataBytes}
 use Rattle.meaning.specs.G8IU.{fits, blocksFrom, blocks, blockControl, block, writeG8IU}
 use Rattle.meaning.proofs.Bounds.{below-nil, below-cons, below-append, below-zeros}
 use Rattle.meaning.proofs.Tests.{by-test}
-use Rattle.fields.proofs.Fields.{held, few-length, fields-cons, fields-append, fields-length, fields-most, fields-small}
+use Rattle.words.proofs.DataBytes.{held, few-length, data-cons, data-append, data-length, data-most, data-small}
 use Rattle.g8iu.proofs.Controls.{Some, control-small}
 
 -- ---- a block that goes no further: the list ends there, or its next number does not fit
@@ -21,31 +21,31 @@ Stops taken [] = Unit {0}
 Stops taken (x ∷ xs) = fits taken x ≡ false
 
 -- one number more
-pub fields-more : (taken : List ℕ) (x : ℕ) → length (fields (taken ++ (x ∷ []))) ≡ length (fields taken) + byteLength x
+pub data-more : (taken : List ℕ) (x : ℕ) → length (dataBytes (taken ++ (x ∷ []))) ≡ length (dataBytes taken) + byteLength x
 unfolding sum
-fields-more taken x =
-    rw (fields-append taken (x ∷ []), length-append (fields taken) (fields (x ∷ [])), fields-length (x ∷ [])) (omega arith)
+data-more taken x =
+    rw (data-append taken (x ∷ []), length-append (dataBytes taken) (dataBytes (x ∷ [])), data-length (x ∷ [])) (omega arith)
 
-pub fits-more : (taken : List ℕ) (x : ℕ) → fits taken x ≡ true → length (fields (taken ++ (x ∷ []))) ≤ 8
+pub fits-more : (taken : List ℕ) (x : ℕ) → fits taken x ≡ true → length (dataBytes (taken ++ (x ∷ []))) ≤ 8
 unfolding fits
-fits-more taken x h = omega (arith, leb-true (length (fields taken) + byteLength x) 8 h, fields-more taken x)
+fits-more taken x h = omega (arith, leb-true (length (dataBytes taken) + byteLength x) 8 h, data-more taken x)
 
 -- a number that does not fit leaves at most three bytes, and at least two numbers stand before it
-pub stops-full : (taken : List ℕ) (x : ℕ) (xs : List ℕ) → Stops taken (x ∷ xs) → (5 ≤ length (fields taken)) × (2 ≤ length taken)
+pub stops-full : (taken : List ℕ) (x : ℕ) (xs : List ℕ) → Stops taken (x ∷ xs) → (5 ≤ length (dataBytes taken)) × (2 ≤ length taken)
 unfolding fits
 stops-full taken x xs h =
-    let l = leb-false (length (fields taken) + byteLength x) 8 h in
-    omega (arith, held x .most, fields-most taken)
+    let l = leb-false (length (dataBytes taken) + byteLength x) 8 h in
+    omega (arith, held x .most, data-most taken)
 
 -- ---- the first block of a list, and the rest
 pub record Cut (taken xs : List ℕ) : Type 0 where
   pub more : List ℕ
   pub rest : List ℕ
   pub is : more ++ rest ≡ xs
-  pub fitted : length (fields (taken ++ more)) ≤ 8
+  pub fitted : length (dataBytes (taken ++ more)) ≤ 8
   pub stops : Stops (taken ++ more) rest
 
-cut-none : (taken xs : List ℕ) → length (fields taken) ≤ 8 → Stops taken xs → Cut taken xs
+cut-none : (taken xs : List ℕ) → length (dataBytes taken) ≤ 8 → Stops taken xs → Cut taken xs
 cut-none taken xs h s = record { more = []; rest = xs; is = refl; fitted = rw append-nil h; stops = rw append-nil s }
 
 cut-more : (taken : List ℕ) (x : ℕ) (xs : List ℕ) → Cut (taken ++ (x ∷ [])) xs → Cut taken (x ∷ xs)
@@ -58,7 +58,7 @@ cut-more taken x xs c =
       stops = rw append-assoc at (c .stops);
     }
 
-pub cut : (taken xs : List ℕ) → length (fields taken) ≤ 8 → Cut taken xs
+pub cut : (taken xs : List ℕ) → length (dataBytes taken) ≤ 8 → Cut taken xs
 cut taken [] h = cut-none taken [] h tt
 cut taken (x ∷ xs) h =
     by-test (fits taken x)
@@ -66,15 +66,15 @@ cut taken (x ∷ xs) h =
     (λ t. cut-none taken (x ∷ xs) h t)
 
 -- a prefix of a block's numbers fits, and the number after it
-fits-next : (taken : List ℕ) (x : ℕ) (more : List ℕ) → length (fields (taken ++ (x ∷ more))) ≤ 8 → fits taken x ≡ true
+fits-next : (taken : List ℕ) (x : ℕ) (more : List ℕ) → length (dataBytes (taken ++ (x ∷ more))) ≤ 8 → fits taken x ≡ true
 unfolding fits
 fits-next taken x more h =
-    let l : length (fields (taken ++ (x ∷ more))) ≡ length (fields taken) + (length (fewest x) + length (fields more)) =
-    simp (fields-append, fields-cons, length-append) in
-    le-leb (length (fields taken) + byteLength x) 8 (omega (arith, few-length x))
+    let l : length (dataBytes (taken ++ (x ∷ more))) ≡ length (dataBytes taken) + (length (fewest x) + length (dataBytes more)) =
+    simp (data-append, data-cons, length-append) in
+    le-leb (length (dataBytes taken) + byteLength x) 8 (omega (arith, few-length x))
 
 -- numbers that fit and one that does not make a block
-blocks-from : (taken more rest : List ℕ) → length (fields (taken ++ more)) ≤ 8 → Stops (taken ++ more) rest → blocksFrom taken (more ++ rest) ≡ (taken ++ more) ∷ blocks rest
+blocks-from : (taken more rest : List ℕ) → length (dataBytes (taken ++ more)) ≤ 8 → Stops (taken ++ more) rest → blocksFrom taken (more ++ rest) ≡ (taken ++ more) ∷ blocks rest
 unfolding blocksFrom blocks
 blocks-from taken [] [] h s = rw append-nil
 blocks-from taken [] (x ∷ rest) h s = let t : fits taken x ≡ false = rw append-nil at s in rw (t, append-nil)
@@ -86,34 +86,34 @@ pub lengths-some : (xs : List ℕ) → Some (map byteLength xs)
 lengths-some [] = tt
 lengths-some (x ∷ xs) = (held x .least, lengths-some xs)
 
-module _ (xs : List ℕ) (fitted : length (fields xs) ≤ 8) where
+module _ (xs : List ℕ) (fitted : length (dataBytes xs) ≤ 8) where
   pub block-length : length (block xs) ≡ 9
   unfolding block
   block-length =
-      let l : length (fields xs ++ replicate (8 - length (fields xs)) 0) ≡ length (fields xs) + (8 - length (fields xs)) = simp (length-append, length-replicate) in
+      let l : length (dataBytes xs ++ replicate (8 - length (dataBytes xs)) 0) ≡ length (dataBytes xs) + (8 - length (dataBytes xs)) = simp (length-append, length-replicate) in
       omega arith
 
   pub block-small : Below 256 (block xs)
   unfolding block
   block-small =
-      below-cons 256 (blockControl (map byteLength xs)) (fields xs ++ replicate (8 - length (fields xs)) 0) (control-small (map byteLength xs) (lengths-some xs) (rw (← (fields-length xs)) fitted))
-      (below-append 256 (fields xs) (replicate (8 - length (fields xs)) 0) (fields-small xs) (below-zeros 256 (8 - length (fields xs)) (omega arith)))
+      below-cons 256 (blockControl (map byteLength xs)) (dataBytes xs ++ replicate (8 - length (dataBytes xs)) 0) (control-small (map byteLength xs) (lengths-some xs) (rw (← (data-length xs)) fitted))
+      (below-append 256 (dataBytes xs) (replicate (8 - length (dataBytes xs)) 0) (data-small xs) (below-zeros 256 (8 - length (dataBytes xs)) (omega arith)))
 
 -- ---- the first block is written, and then the rest
-module _ (x : ℕ) (more rest : List ℕ) (fitted : length (fields (x ∷ more)) ≤ 8) (stops : Stops (x ∷ more) rest) where
+module _ (x : ℕ) (more rest : List ℕ) (fitted : length (dataBytes (x ∷ more)) ≤ 8) (stops : Stops (x ∷ more) rest) where
   pub write-next : writeG8IU (x ∷ (more ++ rest)) ≡ block (x ∷ more) ++ writeG8IU rest
   unfolding writeG8IU blocks joined
   write-next = ap (joined block) (blocks-from (x ∷ []) more rest fitted stops)
 
 -- what holds of no numbers, and of a block and a rest where it holds of the rest, holds of every list
 by-blocks : (P : List ℕ → Type 0) → P []
-    → ((x : ℕ) (more rest : List ℕ) → length (fields (x ∷ more)) ≤ 8 → Stops (x ∷ more) rest → P rest → P (x ∷ (more ++ rest)))
+    → ((x : ℕ) (more rest : List ℕ) → length (dataBytes (x ∷ more)) ≤ 8 → Stops (x ∷ more) rest → P rest → P (x ∷ (more ++ rest)))
     → (f : ℕ) (xs : List ℕ) → length xs ≤ f → P xs
 by-blocks P none next zero [] h = none
 by-blocks P none next (suc f) [] h = none
 by-blocks P none next zero (x ∷ xs) h = absurd (omega arith)
 by-blocks P none next (suc f) (x ∷ xs) h =
-    let c = cut (x ∷ []) xs (omega (arith, fields-most (x ∷ []))) in
+    let c = cut (x ∷ []) xs (omega (arith, data-most (x ∷ []))) in
     let l : length (c .more) + length (c .rest) ≡ length xs = sym (length-append (c .more) (c .rest)) ∙ ap length (c .is) in
     subst (λ (l : List ℕ). P (x ∷ l)) (c .is) (next x (c .more) (c .rest) (c .fitted) (c .stops) (by-blocks P none next f (c .rest) (omega arith)))
 
@@ -122,7 +122,7 @@ unfolding writeG8IU blocks joined
 write-none = refl
 
 -- every block but the last holds at least two numbers
-most-next : (x : ℕ) (more rest : List ℕ) → length (fields (x ∷ more)) ≤ 8 → Stops (x ∷ more) rest
+most-next : (x : ℕ) (more rest : List ℕ) → length (dataBytes (x ∷ more)) ≤ 8 → Stops (x ∷ more) rest
     → length (writeG8IU rest) ≤ (length rest + 1) / 2 * 9 → length (writeG8IU (x ∷ (more ++ rest))) ≤ (length (x ∷ (more ++ rest)) + 1) / 2 * 9
 most-next x more [] fitted stops ih =
     rw (write-next x more [] fitted stops, write-none, append-nil (block (x ∷ more)), block-length (x ∷ more) fitted) (omega arith)
@@ -135,7 +135,7 @@ pub most : (xs : List ℕ) → length (writeG8IU xs) ≤ (length xs + 1) / 2 * 9
 most xs =
     by-blocks (λ (l : List ℕ). length (writeG8IU l) ≤ (length l + 1) / 2 * 9) (rw write-none (omega arith)) most-next (length xs) xs (omega arith)
 
-small-next : (x : ℕ) (more rest : List ℕ) → length (fields (x ∷ more)) ≤ 8 → Stops (x ∷ more) rest
+small-next : (x : ℕ) (more rest : List ℕ) → length (dataBytes (x ∷ more)) ≤ 8 → Stops (x ∷ more) rest
     → Below 256 (writeG8IU rest) → Below 256 (writeG8IU (x ∷ (more ++ rest)))
 small-next x more rest fitted stops ih =
     rw (write-next x more rest fitted stops) (below-append 256 (block (x ∷ more)) (writeG8IU rest) (block-small (x ∷ more) fitted) ih)

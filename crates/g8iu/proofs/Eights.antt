@@ -9,7 +9,7 @@ use lib.Seq.{sets, length-sets, drop-cons, set-getD, set-set}
 use borrow.Author.Tests.{eq-eqb}
 use Rattle.meaning.specs.Answer.{given}
 use Rattle.meaning.specs.Bytes.{numberOf}
-use Rattle.meaning.specs.Fields.{byteLength, fieldsIn}
+use Rattle.meaning.specs.DataBytes.{byteLength, dataIn}
 use Rattle.meaning.specs.G8IU.{bitsLow, lengthsBy, blockLengths}
 use Rattle.meaning.specs.Lists.{all, sum}
 use Rattle.meaning.specs.Places.{Below, part}
@@ -62,12 +62,12 @@ eight-lengths : blockLengths 0 ≡ replicate 8 1
 unfolding blockLengths lengthsBy bitsLow
 eight-lengths = refl
 
-bytes-fields : (bs : List ℕ) → Below 256 bs → fieldsIn (replicate (length bs) 1) bs ≡ given bs
-unfolding fieldsIn numberOf
-bytes-fields [] h = refl
-bytes-fields (b ∷ bs) h =
+bytes-data : (bs : List ℕ) → Below 256 bs → dataIn (replicate (length bs) 1) bs ≡ given bs
+unfolding dataIn numberOf
+bytes-data [] h = refl
+bytes-data (b ∷ bs) h =
     let n : b + 0 ≡ b = omega arith in
-    rw (n, eq-eqb (byteLength b) 1 (length-1 b (h 0)), bytes-fields bs (λ i. h (suc i)))
+    rw (n, eq-eqb (byteLength b) 1 (length-1 b (h 0)), bytes-data bs (λ i. h (suc i)))
 
 pub eight-block : {body : List ℕ} {at ends : ℕ} {most least out : List ℕ} {to : ℕ} → Ending body at ends most least out to → Below 256 body → ends ≡ 255
     → {out′ : List ℕ} → out′ ≡ sets out to (dataAt body at) → BlockIs body at to out out′ (to + 8)
@@ -76,7 +76,7 @@ eight-block {body} {at} {to = to} asks small e here =
     let z : getD body at 0 ≡ 0 = omega (arith, asks .zeros, small at) in
     let d = dataAt body at in
     let n : length d ≡ 8 = part-length body (at + 1) 8 (omega (arith, asks .inside)) in
-    let f : fieldsIn (replicate 8 1) d ≡ given d = rw n at (bytes-fields d (below-take 256 8 (drop (at + 1) body) (below-drop 256 (at + 1) body small))) in
+    let f : dataIn (replicate 8 1) d ≡ given d = rw n at (bytes-data d (below-take 256 8 (drop (at + 1) body) (below-drop 256 (at + 1) body small))) in
     record {
       numbers = d;
       are = rw (z, eight-lengths, drop-of-length-le d {i = 8} (omega arith), f) (or-given d (omega arith));

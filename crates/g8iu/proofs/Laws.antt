@@ -14,14 +14,14 @@ use Rattle.meaning.specs.Limits.{numberLimit}
 use Rattle.meaning.specs.Lists.{all, sum}
 use Rattle.meaning.specs.Places.{Below}
 use Rattle.meaning.specs.Positions.{atByte}
-use Rattle.meaning.specs.Fields.{fields}
+use Rattle.meaning.specs.DataBytes.{dataBytes}
 use Rattle.meaning.specs.G8IU.{fits, block, writeG8IU, blockLengths, blockIn, unitG8IU, joinsG8IU}
 use Rattle.meaning.specs.declared.Position.{Position}
 use Rattle.meaning.proofs.Answers.{Faulty, bind-faulty, need-faulty}
 use Rattle.meaning.proofs.Bounds.{below-nil, below-append, below-left, below-right}
 use Rattle.meaning.proofs.Lawful.{Lawful, Read}
 use Rattle.meaning.proofs.Units.{Whole, read-many, read-written, read-holds}
-use Rattle.fields.proofs.Fields.{fields-most, fields-faulty}
+use Rattle.words.proofs.DataBytes.{data-most, data-faulty}
 use Rattle.g8iu.proofs.Blocks.{Stops, cut, stops-full, block-length, write-none, write-next, most, write-small}
 use Rattle.g8iu.proofs.Spares.{fresh}
 use Rattle.g8iu.proofs.Units.{Ends, unit-written, taken, good, Back, unit-back}
@@ -79,11 +79,11 @@ ended body before at e =
 
 -- a block's waste is at most 3, or the list ends there
 ends-so : (taken rest : List ℕ) (left : ℕ) → Stops taken rest → length taken + length rest ≡ left → Ends left taken ≡ true
-ends-so taken [] left h l = rw (eq-eqb (length taken) left (omega arith)) (or-true (leb (8 - length (fields taken)) 3))
-ends-so taken (x ∷ rest) left h l = let full = stops-full taken x rest h .0 in rw (le-leb (8 - length (fields taken)) 3 (omega arith))
+ends-so taken [] left h l = rw (eq-eqb (length taken) left (omega arith)) (or-true (leb (8 - length (dataBytes taken)) 3))
+ends-so taken (x ∷ rest) left h l = let full = stops-full taken x rest h .0 in rw (le-leb (8 - length (dataBytes taken)) 3 (omega arith))
 
 -- a first block of a body that holds a list
-heads-cut : (body before : List ℕ) (p : Position) (x : ℕ) (more rest : List ℕ) → length (fields (x ∷ more)) ≤ 8 → Stops (x ∷ more) rest
+heads-cut : (body before : List ℕ) (p : Position) (x : ℕ) (more rest : List ℕ) → length (dataBytes (x ∷ more)) ≤ 8 → Stops (x ∷ more) rest
     → HoldsAt body before p (x ∷ (more ++ rest))
     → (unitG8IU body (suc (length (more ++ rest))) p ≡ given (atByte (p .head .byte + 9), x ∷ more)) × (joinsG8IU before (x ∷ more) ≡ true)
     × Holds body (x ∷ more) (p .head .byte + 9) rest
@@ -109,7 +109,7 @@ heads : (body before : List ℕ) (p : Position) (x : ℕ) (xs : List ℕ) → Ho
     → (u : Position × List ℕ) × (unitG8IU body (suc (length xs)) p ≡ given u) × (joinsG8IU before (u .1) ≡ true)
     × ((zs : List ℕ) × (u .1 ++ zs ≡ x ∷ xs) × HoldsAt body (u .1) (u .0) zs)
 heads body before p x xs h =
-    let c = cut (x ∷ []) xs (omega (arith, fields-most (x ∷ []))) in
+    let c = cut (x ∷ []) xs (omega (arith, data-most (x ∷ []))) in
     let u : Position × List ℕ = (atByte (p .head .byte + 9), x ∷ c .more) in
     let is = ap (λ (l : List ℕ). x ∷ l) (c .is) in
     let (e, j, r) = heads-cut body before p x (c .more) (c .rest) (c .fitted) (c .stops) (subst (HoldsAt body before p) (sym is) h) in
@@ -170,7 +170,7 @@ unit-faulty body left p =
     (bind-faulty (blockIn left ls bytes) _
     (need-faulty (leb 1 (length ls)) _
     (need-faulty (leb (length ls) left) _
-    (need-faulty (leb (8 - sum ls) 3 || eqb (length ls) left) _ (need-faulty (all (eqb 0) (drop (sum ls) bytes)) _ (fields-faulty ls bytes)))))
+    (need-faulty (leb (8 - sum ls) 3 || eqb (length ls) left) _ (need-faulty (all (eqb 0) (drop (sum ls) bytes)) _ (data-faulty ls bytes)))))
     (λ xs. tt))
 
 pub lawful : Lawful codeG8IU

@@ -12,12 +12,12 @@ use lib.Pow.{pow-pos, pow-add, low, high}
 use lib.Seq.{take-take, take-add, drop-at, drop-drop}
 use borrow.Author.Tests.{lt-leb, ne-eqb, ltb-true}
 use Rattle.meaning.specs.Bytes.{numberOf, wordAt}
-use Rattle.meaning.specs.Fields.{byteLength}
+use Rattle.meaning.specs.DataBytes.{byteLength}
 use Rattle.meaning.specs.Lists.{all}
 use Rattle.meaning.specs.Places.{Below}
 use Rattle.meaning.proofs.Tests.{by-order}
-use Rattle.fields.proofs.Fields.{held}
-use Rattle.fields.proofs.Straight.{fewest-1, fewest-2, fewest-3, fewest-4}
+use Rattle.words.proofs.DataBytes.{held}
+use Rattle.words.proofs.Straight.{fewest-1, fewest-2, fewest-3, fewest-4}
 use Rattle.g8iu.specs.Blocks.{mostOf, leastOf}
 use Rattle.g8iu.proofs.Parts.{part-length}
 use Rattle.g8iu.proofs.Tables.{at-each}

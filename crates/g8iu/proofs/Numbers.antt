@@ -13,7 +13,7 @@ use lib.Seq.{sets, drop-drop, length-sets}
 use borrow.Author.Tests.{eq-eqb, ne-eqb}
 use Rattle.meaning.specs.Answer.{Answer, given, refused, need}
 use Rattle.meaning.specs.Bytes.{numberOf}
-use Rattle.meaning.specs.Fields.{byteLength, fieldsIn}
+use Rattle.meaning.specs.DataBytes.{byteLength, dataIn}
 use Rattle.meaning.specs.Limits.{fault}
 use Rattle.meaning.specs.Lists.{all, sum}
 use Rattle.meaning.specs.Places.{Below}
@@ -36,13 +36,13 @@ need-refused false = refl
 
 module _ (l : ℕ) (ls bytes : List ℕ) where
   first-taken : byteLength (numberOf (take l bytes)) ≡ l → numbersIn (l ∷ ls) bytes ≡ join (numberOf (take l bytes) ∷ []) (numbersIn ls (drop l bytes))
-  unfolding fieldsIn sum
+  unfolding dataIn sum
   first-taken e =
       rw (eq-eqb (byteLength (numberOf (take l bytes))) l e, ← (drop-drop (sum ls) l bytes))
-      (need-join (all (eqb 0) (drop (sum ls) (drop l bytes))) (numberOf (take l bytes) ∷ []) (fieldsIn ls (drop l bytes)))
+      (need-join (all (eqb 0) (drop (sum ls) (drop l bytes))) (numberOf (take l bytes) ∷ []) (dataIn ls (drop l bytes)))
 
   first-refused : (byteLength (numberOf (take l bytes)) ≡ l → ⊥) → numbersIn (l ∷ ls) bytes ≡ refused fault
-  unfolding fieldsIn
+  unfolding dataIn
   first-refused e = rw (ne-eqb (byteLength (numberOf (take l bytes))) l e) (need-refused (all (eqb 0) (drop (sum (l ∷ ls)) bytes)))
 
 join-nil : (m : Answer (List ℕ)) → m ≡ join [] m
@@ -177,7 +177,7 @@ module _ {body : List ℕ} {at ends : ℕ} {most least out₀ : List ℕ} {to : 
   -- no number is left: what is left of the data is waste
   module _ (none : coming ≡ 0) where
     waste-is : numbersAt body at ≡ join (so .taken) (need (all (eqb 0) (so .bytes)) fault (given []))
-    unfolding fieldsIn sum
+    unfolding dataIn sum
     waste-is = so .numbers ∙ rw (none, lengths-none (length (so .bytes)) (omega (arith, so .few)))
 
     pub numbers-waste : (rest ≡ 0 → ⊥) → BegunIs body at to out₀ out 0

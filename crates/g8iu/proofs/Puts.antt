@@ -10,16 +10,16 @@ use lib.ListN.{length, getD, set, replicate, length-set, length-append}
 use lib.Pow.{shl-exact}
 use lib.Seq.{sets, length-sets}
 use borrow.Author.Tests.{lt-leb}
-use Rattle.meaning.specs.Fields.{byteLength, fewest, fields}
+use Rattle.meaning.specs.DataBytes.{byteLength, fewest, dataBytes}
 use Rattle.meaning.specs.G8IU.{fits, blockControl, block}
 use Rattle.meaning.specs.Lists.{sum, joined}
 use Rattle.meaning.specs.Places.{part}
 use Rattle.meaning.proofs.Stores.{sets-append, set-sets}
-use Rattle.fields.proofs.Fields.{held, fields-append, fields-length, fields-most}
+use Rattle.words.proofs.DataBytes.{held, data-append, data-length, data-most}
 use Rattle.leaves.proofs.Joined.{joined-one}
 use Rattle.g8iu.specs.Blocks.{PutBlock}
 use Rattle.g8iu.proofs.Controls.{control-none, control-small, control-more}
-use Rattle.g8iu.proofs.Blocks.{fields-more, lengths-some}
+use Rattle.g8iu.proofs.Blocks.{data-more, lengths-some}
 use Rattle.g8iu.proofs.Parts.{part-snoc}
 
 -- ---- zeros after the data bytes that are used: i of the 8 stand, and what is left makes the whole
@@ -60,14 +60,14 @@ pub record PutSo (list : List ℕ) (from end at : ℕ) (out₀ out : List ℕ) (
   pub b : List ℕ
   pub is : part list from (next - from) ≡ b
   pub many : length b ≡ next - from
-  pub fitted : length (fields b) ≤ 8
+  pub fitted : length (dataBytes b) ≤ 8
   pub bits : control ≡ blockControl (map byteLength b)
-  pub ended : used ≡ length (fields b)
-  pub here : out ≡ sets out₀ (at + 1) (fields b)
+  pub ended : used ≡ length (dataBytes b)
+  pub here : out ≡ sets out₀ (at + 1) (dataBytes b)
 
 pub put-start : {list : List ℕ} {from end at : ℕ} {out : List ℕ} → (from < end) × (end ≤ length list) × (at + 9 < 2 ^ 63)
     → PutSo list from end at out out 255 0 from
-unfolding fields joined
+unfolding dataBytes joined
 put-start {list} {from} asks =
     let e : from - from ≡ 0 = omega arith in
     record {
@@ -83,32 +83,32 @@ put-start {list} {from} asks =
       here = refl;
     }
 
-fields-one : (x : ℕ) → fields (x ∷ []) ≡ fewest x
-unfolding fields
-fields-one x = joined-one fewest x
+data-one : (x : ℕ) → dataBytes (x ∷ []) ≡ fewest x
+unfolding dataBytes
+data-one x = joined-one fewest x
 
 block-at : (out : List ℕ) (at : ℕ) (b : List ℕ)
-    → sets out at (block b) ≡ sets (set out at (blockControl (map byteLength b))) (at + 1) (fields b ++ replicate (8 - length (fields b)) 0)
+    → sets out at (block b) ≡ sets (set out at (blockControl (map byteLength b))) (at + 1) (dataBytes b ++ replicate (8 - length (dataBytes b)) 0)
 unfolding block
 block-at out at b = rw (add-one at)
 
 -- a number more in the block b, and its bit in the control byte
-bit-more : (b : List ℕ) (x control used : ℕ) → control ≡ blockControl (map byteLength b) → used ≡ length (fields b) → used + byteLength x ≤ 8
+bit-more : (b : List ℕ) (x control used : ℕ) → control ≡ blockControl (map byteLength b) → used ≡ length (dataBytes b) → used + byteLength x ≤ 8
     → control ≡ blockControl (map byteLength (b ++ (x ∷ []))) + 2 ^ (used + byteLength x - 1)
 bit-more b x control used bits ended l =
-    let n = fields-length b in
+    let n = data-length b in
     let k : used ≡ sum (map byteLength b) = omega arith in
     rw (map-append byteLength b (x ∷ []), k) (bits ∙ control-more (map byteLength b) (byteLength x) (lengths-some b) (held x .least) (omega arith))
 
 module _ {list : List ℕ} {from end at : ℕ} {out₀ out : List ℕ} {control used next : ℕ} (so : PutSo list from end at out₀ out control used next) where
   pub put-long : length out ≡ length out₀
-  put-long = ap length (so .here) ∙ length-sets out₀ (at + 1) (fields (so .b))
+  put-long = ap length (so .here) ∙ length-sets out₀ (at + 1) (dataBytes (so .b))
 
   -- what closing the block asks
   pub put-closes : (at + 9 < 2 ^ 63) × (control < 256) × (used ≤ 8)
   put-closes = (
     so .asks .2,
-    rw (so .bits) (control-small (map byteLength (so .b)) (lengths-some (so .b)) (rw (← (fields-length (so .b))) (so .fitted))),
+    rw (so .bits) (control-small (map byteLength (so .b)) (lengths-some (so .b)) (rw (← (data-length (so .b))) (so .fitted))),
     omega (arith, so .ended, so .fitted),
   )
 
@@ -129,8 +129,8 @@ module _ {list : List ℕ} {from end at : ℕ} {out₀ out : List ℕ} {control 
     number-put : {out′ : List ℕ} → out′ ≡ sets out (at + 1 + used) (fewest x)
         → PutSo list from end at out₀ out′ (control - 1 * 2 ^ (used + byteLength x - 1) % 2 ^ 32) (used + byteLength x) (next + 1)
     number-put e =
-        let n = fields-more (so .b) x in
-        let f = fields (so .b) in
+        let n = data-more (so .b) x in
+        let f = dataBytes (so .b) in
         record {
           asks = so .asks;
           low = omega (arith, so .low);
@@ -142,13 +142,13 @@ module _ {list : List ℕ} {from end at : ℕ} {out₀ out : List ℕ} {control 
           bits = rw bit-value (omega (arith, bit-more (so .b) x control used (so .bits) (so .ended) l));
           ended = omega (arith, so .ended);
           here = e ∙ ap₂ (λ (l : List ℕ) (k : ℕ). sets l (at + 1 + k) (fewest x)) (so .here) (so .ended) ∙ sets-append f (fewest x) out₀ (at + 1)
-              ∙ ap (sets out₀ (at + 1)) (sym (fields-append (so .b) (x ∷ []) ∙ ap (λ (l : List ℕ). f ++ l) (fields-one x)));
+              ∙ ap (sets out₀ (at + 1)) (sym (data-append (so .b) (x ∷ []) ∙ ap (λ (l : List ℕ). f ++ l) (data-one x)));
         }
 
   -- the control byte and the zeros make the block whole
   put-close : {out′ : List ℕ} → out′ ≡ sets (set out at control) (at + 1 + used) (replicate (8 - used) 0) → out′ ≡ sets out₀ at (block (so .b))
   put-close e =
-      let f = fields (so .b) in
+      let f = dataBytes (so .b) in
       let z : List ℕ = replicate (8 - length f) 0 in
       let c = blockControl (map byteLength (so .b)) in
       let s : set out at control ≡ sets (set out₀ at c) (at + 1) f = rw (so .here, so .bits) (set-sets f out₀ at (at + 1) c (omega arith)) in
@@ -182,14 +182,14 @@ module _ {list : List ℕ} {from end at : ℕ} {out₀ out : List ℕ} {control 
 
     no-room : 8 < used + len → fits (so .b) (getD list next 0) ≡ false
     unfolding fits
-    no-room h = lt-leb (length (fields (so .b)) + byteLength (getD list next 0)) 8 (omega (arith, so .ended))
+    no-room h = lt-leb (length (dataBytes (so .b)) + byteLength (getD list next 0)) 8 (omega (arith, so .ended))
 
     -- it does not fit
     pub put-full : 8 < used + len → {out′ : List ℕ} → out′ ≡ sets (set out at control) (at + 1 + used) (replicate (8 - used) 0)
         → PutBlock list from end at out₀ out′ next
     put-full h closed =
         record {
-          some = omega (arith, put-sized, so .ended, fields-most (so .b), so .many);
+          some = omega (arith, put-sized, so .ended, data-most (so .b), so .many);
           within = so .high;
           fitted = rw (so .is) (so .fitted);
           stops = λ k. rw (so .is) (no-room h);

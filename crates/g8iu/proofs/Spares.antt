@@ -7,25 +7,25 @@ use native.Mathlib.Omega.{arith}
 use lib.ListN.{length, getD, take}
 use lib.Seq.{take-suc, length-take-le}
 use borrow.Author.Tests.{le-leb, lt-leb, lt-ltb, le-ltb}
-use Rattle.meaning.specs.Fields.{byteLength, fields}
+use Rattle.meaning.specs.DataBytes.{byteLength, dataBytes}
 use Rattle.meaning.specs.G8IU.{fits, joinsG8IU}
 use Rattle.meaning.specs.Lists.{joined}
 use Rattle.meaning.specs.Places.{Spare}
 use Rattle.meaning.proofs.Codes.{length-some}
 use Rattle.meaning.proofs.Tests.{by-order}
-use Rattle.fields.proofs.Fields.{fields-most}
-use Rattle.g8iu.proofs.Blocks.{fields-more}
+use Rattle.words.proofs.DataBytes.{data-most}
+use Rattle.g8iu.proofs.Blocks.{data-more}
 
 -- any block may be the first
 pub fresh : Spare joinsG8IU [] 0
 unfolding joinsG8IU
 fresh xs = sym (lt-ltb 0 (byteLength (getD xs 0 0)) (length-some (getD xs 0 0)))
 
-pub spare-of : (ys : List ℕ) → 0 < length ys → Spare joinsG8IU ys (8 - length (fields ys))
+pub spare-of : (ys : List ℕ) → 0 < length ys → Spare joinsG8IU ys (8 - length (dataBytes ys))
 unfolding joinsG8IU fits
 spare-of [] some xs = absurd (omega arith)
 spare-of (y ∷ ys) some xs =
-    let used = length (fields (y ∷ ys)) in
+    let used = length (dataBytes (y ∷ ys)) in
     let more = byteLength (getD xs 0 0) in
     by-order 8 (used + more)
     (λ h. rw (lt-leb (used + more) 8 h, lt-ltb (8 - used) more (omega (arith, length-some (getD xs 0 0)))))
@@ -36,15 +36,15 @@ pub record UsedSo (numbers : List ℕ) (count used i : ℕ) : Type 0 where
   pub places : count ≤ length numbers
   pub eight : count ≤ 8
   pub few : i ≤ count
-  pub is : used ≡ length (fields (take i numbers))
+  pub is : used ≡ length (dataBytes (take i numbers))
 
 pub used-start : {numbers : List ℕ} {count : ℕ} → count ≤ length numbers → count ≤ 8 → UsedSo numbers count 0 0
-unfolding fields joined
+unfolding dataBytes joined
 used-start places eight = record { places = places; eight = eight; few = omega arith; is = refl }
 
 module _ {numbers : List ℕ} {count used i : ℕ} (so : UsedSo numbers count used i) where
   pub used-most : used ≤ 4 * i
-  used-most = omega (arith, so .is, fields-most (take i numbers), length-take-le i numbers (omega (arith, so .few, so .places)))
+  used-most = omega (arith, so .is, data-most (take i numbers), length-take-le i numbers (omega (arith, so .few, so .places)))
 
   pub used-turn : i < count → {l : ℕ} → l ≡ byteLength (getD numbers i 0) → UsedSo numbers count (used + l) (i + 1)
   used-turn h {l} e =
@@ -52,7 +52,7 @@ module _ {numbers : List ℕ} {count used i : ℕ} (so : UsedSo numbers count us
         places = so .places;
         eight = so .eight;
         few = omega arith;
-        is = rw (e, so .is, add-one i, take-suc numbers i 0 (omega (arith, so .places))) (sym (fields-more (take i numbers) (getD numbers i 0)));
+        is = rw (e, so .is, add-one i, take-suc numbers i 0 (omega (arith, so .places))) (sym (data-more (take i numbers) (getD numbers i 0)));
       }
 
   pub used-end : count ≤ i → (count ≡ 0 → ⊥) → {r : ℕ} → r ≡ 8 - used → Spare joinsG8IU (take count numbers) r

@@ -11,7 +11,7 @@ use lib.ListN.{length, getD, take, drop, replicate, length-replicate}
 use lib.Seq.{sets, sets-eq, drop-append-seam}
 use borrow.Author.Tests.{le-leb, lt-leb, leb-true, eq-eqb, ne-eqb}
 use Rattle.meaning.specs.Answer.{Answer, given, refused, bind, need}
-use Rattle.meaning.specs.Fields.{byteLength, fields, fieldsIn}
+use Rattle.meaning.specs.DataBytes.{byteLength, dataBytes, dataIn}
 use Rattle.meaning.specs.G8IU.{blockLengths, blockIn, unitG8IU}
 use Rattle.meaning.specs.Limits.{fault}
 use Rattle.meaning.specs.Lists.{all, sum}
@@ -23,12 +23,12 @@ use Rattle.meaning.specs.declared.Unit.the-variants as unit
 use Rattle.meaning.proofs.Answers.{need-given}
 use Rattle.meaning.proofs.Stores.{part-sets}
 use Rattle.meaning.proofs.Tests.{by-order, both-true}
-use Rattle.fields.proofs.Fields.{fields-length}
+use Rattle.words.proofs.DataBytes.{data-length}
 use Rattle.g8iu.specs.Blocks.{allowed, numbersIn, lengthsAt, dataAt, numbersAt, orFault, mostOf, leastOf, Ending, BlockIs}
 use Rattle.g8iu.proofs.Controls.{control-is}
 use Rattle.g8iu.proofs.Ends.{first-is, lengths-start}
 use Rattle.g8iu.proofs.Numbers.{need-refused, or-none, or-some, or-given}
-use Rattle.g8iu.proofs.Units.{fields-lengths, fields-many}
+use Rattle.g8iu.proofs.Units.{data-lengths, data-many}
 
 -- ---- a unit by its block
 need-and : (a b : Bool) (m : Answer (List ℕ)) → need a fault (need b fault m) ≡ need (a && b) fault m
@@ -112,19 +112,19 @@ module _ (body : List ℕ) (at : ℕ) (h : getD body at 0 < 256) (xs : List ℕ)
   abbrev c : ℕ
   c = getD body at 0
 
-  numbers-are : fieldsIn (blockLengths c) (dataAt body at) ≡ given xs
+  numbers-are : dataIn (blockLengths c) (dataAt body at) ≡ given xs
   numbers-are = need-given (all (eqb 0) (drop (sum (blockLengths c)) (dataAt body at))) fault _ xs is .1
 
   lengths-are : map byteLength xs ≡ blockLengths c
-  lengths-are = fields-lengths (blockLengths c) (dataAt body at) xs numbers-are
+  lengths-are = data-lengths (blockLengths c) (dataAt body at) xs numbers-are
 
   pub block-few : length xs ≤ 8
-  block-few = omega (arith, fields-many (blockLengths c) (dataAt body at) xs numbers-are, control-is c h .many)
+  block-few = omega (arith, data-many (blockLengths c) (dataAt body at) xs numbers-are, control-is c h .many)
 
   -- its waste and the length of its first number, by its ends
-  pub block-waste : leadingZeros 32 (255 - c) - 24 ≡ 8 - length (fields xs)
+  pub block-waste : leadingZeros 32 (255 - c) - 24 ≡ 8 - length (dataBytes xs)
   block-waste =
-      let n : length (fields xs) ≡ sum (blockLengths c) = fields-length xs ∙ ap sum lengths-are in
+      let n : length (dataBytes xs) ≡ sum (blockLengths c) = data-length xs ∙ ap sum lengths-are in
       omega (arith, control-is c h .top)
 
   pub block-first : (255 - c ≡ 0 → ⊥) → byteLength (getD xs 0 0) ≡ trailingZeros 32 (255 - c) + 1

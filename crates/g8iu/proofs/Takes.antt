@@ -8,7 +8,7 @@ use lib.ListN.{length, getD}
 use lib.Seq.{sets}
 use Rattle.meaning.specs.Answer.{given}
 use Rattle.meaning.specs.Codes.{codeG8IU}
-use Rattle.meaning.specs.Fields.{fields}
+use Rattle.meaning.specs.DataBytes.{dataBytes}
 use Rattle.meaning.specs.G8IU.{unitG8IU}
 use Rattle.meaning.specs.Places.{Below, Target, Took, Ends}
 use Rattle.meaning.specs.Positions.{atByte}
@@ -113,14 +113,14 @@ module _ {body : List ℕ} {left : ℕ} {p : Position} {w₀ : List ℕ} {first 
             let allows = allows-plain {c = getD body to 0} byte (left - i) (rw z at (plain .full)) (omega (arith, so .most, so .low)) in
             let u = unit-numbers body (left - i) (atByte to) (plain .inside) allows (given xs) given-is in
             let f = block-first body to byte xs given-is (λ e. omega (arith, plain .full)) in
-            let spares : leadingZeros 32 ends - 24 ≡ 8 - length (fields xs) = rw z (block-waste body to byte xs given-is) in
+            let spares : leadingZeros 32 ends - 24 ≡ 8 - length (dataBytes xs) = rw z (block-waste body to byte xs given-is) in
             record {
               bytes = so .bytes;
               target = so .target;
               units = so .units + 1;
               far = omega (arith, so .far);
               takes = rw (k, spares)
-                  (takes-turn codeG8IU body left p w₀ first w i (so .units) spare (atByte to) (so .takes) (atByte (to + 9), xs) w′ (8 - length (fields xs))
+                  (takes-turn codeG8IU body left p w₀ first w i (so .units) spare (atByte to) (so .takes) (atByte (to + 9), xs) w′ (8 - length (dataBytes xs))
                   (omega (arith, so .most, so .low)) u (many .0) (rw f (omega (arith, rw z at (plain .joins)))) (spare-of xs (many .0)) (rw n (is .here)));
               low = omega (arith, so .low, going-after);
               high = omega (arith, going-after);

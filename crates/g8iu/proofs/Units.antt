@@ -16,14 +16,14 @@ use Rattle.meaning.specs.Lists.{all, sum}
 use Rattle.meaning.specs.Places.{Below}
 use Rattle.meaning.specs.Positions.{atByte}
 use Rattle.meaning.specs.Bytes.{numberOf}
-use Rattle.meaning.specs.Fields.{byteLength, fields, fieldsIn}
+use Rattle.meaning.specs.DataBytes.{byteLength, dataBytes, dataIn}
 use Rattle.meaning.specs.G8IU.{blockControl, block, blockLengths, blockIn, unitG8IU}
 use Rattle.meaning.specs.declared.Position.{Position}
 use Rattle.meaning.proofs.Answers.{bind-given, need-given}
 use Rattle.meaning.proofs.Bounds.{below-take, below-drop}
 use Rattle.meaning.proofs.Tests.{both-true}
 use Rattle.meaning.proofs.Units.{Good}
-use Rattle.fields.proofs.Fields.{fields-length, fields-written, fields-back}
+use Rattle.words.proofs.DataBytes.{data-length, data-written, data-back}
 use Rattle.g8iu.proofs.Controls.{lengths-control, control-is}
 use Rattle.g8iu.proofs.Blocks.{lengths-some, block-length}
 
@@ -41,7 +41,7 @@ pub record Passed (left : ℕ) (ls bytes xs : List ℕ) : Type 0 where
   pub few : length ls ≤ left
   pub ends : leb (8 - sum ls) 3 || eqb (length ls) left ≡ true
   pub clear : all (eqb 0) (drop (sum ls) bytes) ≡ true
-  pub numbers : fieldsIn ls bytes ≡ given xs
+  pub numbers : dataIn ls bytes ≡ given xs
 
 pub passed : (left : ℕ) (ls bytes xs : List ℕ) → blockIn left ls bytes ≡ given xs → Passed left ls bytes xs
 unfolding blockIn
@@ -64,23 +64,23 @@ zeros-zero (suc n) = zeros-zero n
 
 -- the list ends with the block, or its waste is at most 3
 abbrev pub Ends : ℕ → List ℕ → Bool
-Ends left xs = leb (8 - length (fields xs)) 3 || eqb (length xs) left
+Ends left xs = leb (8 - length (dataBytes xs)) 3 || eqb (length xs) left
 
-module _ (left : ℕ) (xs : List ℕ) (some : 1 ≤ length xs) (few : length xs ≤ left) (small : Below numberLimit xs) (fitted : length (fields xs) ≤ 8) (ends : Ends left xs ≡ true) where
+module _ (left : ℕ) (xs : List ℕ) (some : 1 ≤ length xs) (few : length xs ≤ left) (small : Below numberLimit xs) (fitted : length (dataBytes xs) ≤ 8) (ends : Ends left xs ≡ true) where
   abbrev data-of : List ℕ
-  data-of = fields xs ++ replicate (8 - length (fields xs)) 0
+  data-of = dataBytes xs ++ replicate (8 - length (dataBytes xs)) 0
 
   block-written : blockIn left (map byteLength xs) data-of ≡ given xs
   block-written =
       let n = length-map xs byteLength in
-      let l = fields-length xs in
+      let l = data-length xs in
       block-given left (map byteLength xs) data-of xs
       (record {
         some = omega arith;
         few = omega arith;
         ends = rw (n, ← l) ends;
-        clear = rw (← l, drop-append-seam (fields xs) (replicate (8 - length (fields xs)) 0)) (zeros-zero (8 - length (fields xs)));
-        numbers = fields-written xs (replicate (8 - length (fields xs)) 0) small;
+        clear = rw (← l, drop-append-seam (dataBytes xs) (replicate (8 - length (dataBytes xs)) 0)) (zeros-zero (8 - length (dataBytes xs)));
+        numbers = data-written xs (replicate (8 - length (dataBytes xs)) 0) small;
       })
 
   -- a body that goes on with the block has it for its unit
@@ -96,22 +96,22 @@ module _ (left : ℕ) (xs : List ℕ) (some : 1 ≤ length xs) (few : length xs 
         first-is body at _ _ e,
         later-is body at (blockControl (map byteLength xs)) (data-of ++ rest) e,
         take-at data-of rest 8 d,
-        lengths-control (map byteLength xs) (lengths-some xs) (rw (← (fields-length xs)) fitted),
+        lengths-control (map byteLength xs) (lengths-some xs) (rw (← (data-length xs)) fitted),
         block-written,
       )
 
 -- ---- read and written back
-pub fields-lengths : (ls bytes xs : List ℕ) → fieldsIn ls bytes ≡ given xs → map byteLength xs ≡ ls
-unfolding fieldsIn
-fields-lengths [] bytes xs e = let is : [] ≡ xs = cc in rw (← is)
-fields-lengths (l ∷ ls) bytes xs e =
+pub data-lengths : (ls bytes xs : List ℕ) → dataIn ls bytes ≡ given xs → map byteLength xs ≡ ls
+unfolding dataIn
+data-lengths [] bytes xs e = let is : [] ≡ xs = cc in rw (← is)
+data-lengths (l ∷ ls) bytes xs e =
     let (t, e₁) = need-given (eqb (byteLength (numberOf (take l bytes))) l) fault _ xs e in
-    let (ys, ey, e₂) = bind-given (fieldsIn ls (drop l bytes)) _ xs e₁ in
+    let (ys, ey, e₂) = bind-given (dataIn ls (drop l bytes)) _ xs e₁ in
     let is : numberOf (take l bytes) ∷ ys ≡ xs = cc in
-    sym (ap (map byteLength) is) ∙ ap₂ (λ (n : ℕ) (r : List ℕ). n ∷ r) (eqb-true _ l t) (fields-lengths ls (drop l bytes) ys ey)
+    sym (ap (map byteLength) is) ∙ ap₂ (λ (n : ℕ) (r : List ℕ). n ∷ r) (eqb-true _ l t) (data-lengths ls (drop l bytes) ys ey)
 
-pub fields-many : (ls bytes xs : List ℕ) → fieldsIn ls bytes ≡ given xs → length xs ≡ length ls
-fields-many ls bytes xs e = sym (length-map xs byteLength) ∙ ap length (fields-lengths ls bytes xs e)
+pub data-many : (ls bytes xs : List ℕ) → dataIn ls bytes ≡ given xs → length xs ≡ length ls
+data-many ls bytes xs e = sym (length-map xs byteLength) ∙ ap length (data-lengths ls bytes xs e)
 
 -- a unit that was read: the block is there, and its tests passed
 pub record Taken (body : List ℕ) (left : ℕ) (p : Position) (u : Position × List ℕ) : Type 0 where
@@ -137,8 +137,8 @@ taken body left p u e =
 pub good : (body : List ℕ) → Good (unitG8IU body)
 good body =
     record {
-      some = λ left p u h e. let t = taken body left p u e .tests in omega (arith, fields-many _ _ _ (t .numbers));
-      few = λ left p u h e. let t = taken body left p u e .tests in omega (arith, fields-many _ _ _ (t .numbers));
+      some = λ left p u h e. let t = taken body left p u e .tests in omega (arith, data-many _ _ _ (t .numbers));
+      few = λ left p u h e. let t = taken body left p u e .tests in omega (arith, data-many _ _ _ (t .numbers));
     }
 
 zeros-are : (bs : List ℕ) → all (eqb 0) bs ≡ true → bs ≡ replicate (length bs) 0
@@ -151,7 +151,7 @@ zeros-are (b ∷ bs) h =
 -- a block that was read is the one that is written
 pub record IsBlock (c : ℕ) (bytes xs : List ℕ) : Type 0 where
   pub is : c ∷ bytes ≡ block xs
-  pub fitted : length (fields xs) ≤ 8
+  pub fitted : length (dataBytes xs) ≤ 8
   pub small : Below numberLimit xs
 
 is-block : (c left : ℕ) (bytes xs : List ℕ) → c < 256 → Below 256 bytes → length bytes ≡ 8 → Passed left (blockLengths c) bytes xs → IsBlock c bytes xs
@@ -159,10 +159,10 @@ unfolding block
 is-block c left bytes xs h b l t =
     let ls = blockLengths c in
     let k = control-is c h in
-    let f = fields-back ls bytes xs b (omega (arith, k .within)) (t .numbers) in
-    let n : length (fields xs) ≡ sum ls = fields-length xs ∙ ap sum (f .lengths) in
-    let w : length (drop (sum ls) bytes) ≡ 8 - length (fields xs) = rw (n, length-drop (sum ls) bytes, l) in
-    let waste : drop (sum ls) bytes ≡ replicate (8 - length (fields xs)) 0 = zeros-are (drop (sum ls) bytes) (t .clear) ∙ ap (λ (k : ℕ). replicate k 0) w in
+    let f = data-back ls bytes xs b (omega (arith, k .within)) (t .numbers) in
+    let n : length (dataBytes xs) ≡ sum ls = data-length xs ∙ ap sum (f .lengths) in
+    let w : length (drop (sum ls) bytes) ≡ 8 - length (dataBytes xs) = rw (n, length-drop (sum ls) bytes, l) in
+    let waste : drop (sum ls) bytes ≡ replicate (8 - length (dataBytes xs)) 0 = zeros-are (drop (sum ls) bytes) (t .clear) ∙ ap (λ (k : ℕ). replicate k 0) w in
     record {
       is = ap₂ (λ (x : ℕ) (r : List ℕ). x ∷ r) (sym (k .back) ∙ ap blockControl (sym (f .lengths)))
           (sym (take-append-drop (sum ls) bytes) ∙ ap₂ _++_ (f .is) waste);
@@ -172,7 +172,7 @@ is-block c left bytes xs h b l t =
 
 pub record Back (body : List ℕ) (at : ℕ) (xs : List ℕ) : Type 0 where
   pub is : drop at body ≡ block xs ++ drop (at + 9) body
-  pub fitted : length (fields xs) ≤ 8
+  pub fitted : length (dataBytes xs) ≤ 8
   pub small : Below numberLimit xs
 
 pub unit-back : (body : List ℕ) → Below 256 body → (left : ℕ) (p : Position) (u : Position × List ℕ) → unitG8IU body left p ≡ given u → Back body (p .head .byte) (u .1)

@@ -7,7 +7,7 @@ use native.Mathlib.Nat.{add-zero}
 use native.Mathlib.Omega.{arith}
 use lib.ListN.{length, getD, drop, length-append}
 use lib.Seq.{sets, length-sets, take-add, drop-drop}
-use Rattle.meaning.specs.Fields.{fields}
+use Rattle.meaning.specs.DataBytes.{dataBytes}
 use Rattle.meaning.specs.G8IU.{fits, block, writeG8IU}
 use Rattle.meaning.specs.Places.{Source, Wrote, part}
 use Rattle.meaning.proofs.Stores.{sets-append}
@@ -47,7 +47,7 @@ stops-at b list r end h inside s =
     (λ l. rw (part-next list r end l inside) (s l))
     (λ l. let e : end - r ≡ 0 = omega arith in rw e tt)
 
-write-block : (b rest : List ℕ) → 0 < length b → length (fields b) ≤ 8 → Stops b rest → writeG8IU (b ++ rest) ≡ block b ++ writeG8IU rest
+write-block : (b rest : List ℕ) → 0 < length b → length (dataBytes b) ≤ 8 → Stops b rest → writeG8IU (b ++ rest) ≡ block b ++ writeG8IU rest
 write-block [] rest some fitted stops = absurd (omega arith)
 write-block (x ∷ more) rest some fitted stops = write-next x more rest fitted stops
 

@@ -8,7 +8,7 @@ use lib.Dec.{leb, eqb}
 use lib.ListN.{length, getD, take, drop}
 use lib.Seq.{sets}
 use Rattle.meaning.specs.Answer.{Answer, given, refused, need}
-use Rattle.meaning.specs.Fields.{fields, fieldsIn}
+use Rattle.meaning.specs.DataBytes.{dataBytes, dataIn}
 use Rattle.meaning.specs.G8IU.{fits, block, blockLengths}
 use Rattle.meaning.specs.Limits.{fault}
 use Rattle.meaning.specs.Lists.{all, sum}
@@ -21,7 +21,7 @@ allowed left ls = leb 1 (length ls) && (leb (length ls) left && (leb (8 - sum ls
 
 -- the numbers of these lengths, in data whose waste is 0
 abbrev pub numbersIn : List ℕ → List ℕ → Answer (List ℕ)
-numbersIn ls bytes = need (all (eqb 0) (drop (sum ls) bytes)) fault (fieldsIn ls bytes)
+numbersIn ls bytes = need (all (eqb 0) (drop (sum ls) bytes)) fault (dataIn ls bytes)
 
 -- the block at an offset of a body: the lengths that its control byte says, its data, and its numbers
 abbrev pub lengthsAt : List ℕ → ℕ → List ℕ
@@ -85,6 +85,6 @@ pub record Plain (body : List ℕ) (at spare ends : ℕ) : Type 0 where
 pub record PutBlock (list : List ℕ) (from end at : ℕ) (out out′ : List ℕ) (r : ℕ) : Type 0 where
   pub some : from < r
   pub within : r ≤ end
-  pub fitted : length (fields (part list from (r - from))) ≤ 8
+  pub fitted : length (dataBytes (part list from (r - from))) ≤ 8
   pub stops : r < end → fits (part list from (r - from)) (getD list r 0) ≡ false
   pub here : out′ ≡ sets out at (block (part list from (r - from)))

@@ -1,9 +1,9 @@
 // Putting a block to an output.
-use fields::byte_length;
-use fields::put_fewest;
 use leaves::put;
 use meaning::Offset;
 use meaning::Place;
+use words::byte_length;
+use words::put_fewest;
 ghost use mathlib.Core.Path.{_≡_};
 ghost use Prim.Native.Nat.{_+_, _-_, _^_, _≤_, _<_};
 ghost use lib.ListN.{length, set, replicate};

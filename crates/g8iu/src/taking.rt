@@ -1,9 +1,9 @@
 // Taking the numbers of one block from a body. Nothing is refused here: where a block is at fault no number is taken, and all is as it was.
-use fields::word_at;
 use leaves::lesser;
 use leaves::wide;
 use meaning::Offset;
 use meaning::Place;
+use words::word_at;
 ghost use mathlib.Core.Path.{_≡_};
 ghost use Prim.Native.Nat.{_+_, _≤_};
 ghost use lib.Dec.{leb};

@@ -5,9 +5,9 @@ use mathlib.Core.List.{List, [], _∷_, map}
 use native.Mathlib.Nat.{pow-suc, div-div-eq-div-mul, div-eq-of-lt, mul-comm, lt-of-lt-of-le, pow-le-pow-right}
 use native.Mathlib.Omega.{arith}
 use lib.ListN.{length, length-map}
-use Rattle.meaning.specs.Fields.{byteLength}
+use Rattle.meaning.specs.DataBytes.{byteLength}
 use Rattle.meaning.specs.Groups.{controlOf, lengthsIn, control}
-use Rattle.fields.proofs.Fields.{held}
+use Rattle.words.proofs.DataBytes.{held}
 
 -- the lengths that a field can say
 abbrev pub Lengths : List ℕ → Type 0

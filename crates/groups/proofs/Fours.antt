@@ -5,13 +5,13 @@ use mathlib.Core.List.{List, [], _∷_, _++_, append-nil, map}
 use native.Mathlib.Omega.{arith}
 use lib.ListN.{length, take, drop, drop-of-length-le, length-append, length-take, length-drop, length-map, take-append-drop}
 use lib.Seq.{take-at, drop-at, take-all}
-use Rattle.meaning.specs.Fields.{fields}
+use Rattle.meaning.specs.DataBytes.{dataBytes}
 use Rattle.meaning.specs.Groups.{fours, groupCount, control, writeGroups, writeStream}
 use Rattle.meaning.specs.Lists.{joined}
 use Rattle.meaning.specs.Places.{Below}
 use Rattle.meaning.proofs.Bounds.{below-nil, below-cons, below-append}
 use Rattle.meaning.proofs.Tests.{by-order}
-use Rattle.fields.proofs.Fields.{fields-append, fields-small}
+use Rattle.words.proofs.DataBytes.{data-append, data-small}
 use Rattle.groups.proofs.Controls.{control-byte}
 
 -- the first group, and those of the rest: each is full but the last
@@ -52,15 +52,15 @@ by-fours P none more (a ∷ b ∷ c ∷ []) = more (a ∷ b ∷ c ∷ []) (omega
 by-fours P none more (a ∷ b ∷ c ∷ d ∷ xs) = more (a ∷ b ∷ c ∷ d ∷ xs) (omega arith) (by-fours P none more xs)
 
 -- ---- what is written, group by group
-pub groups-next : (xs : List ℕ) → 0 < length xs → writeGroups xs ≡ control (take 4 xs) ∷ (fields (take 4 xs) ++ writeGroups (drop 4 xs))
+pub groups-next : (xs : List ℕ) → 0 < length xs → writeGroups xs ≡ control (take 4 xs) ∷ (dataBytes (take 4 xs) ++ writeGroups (drop 4 xs))
 unfolding writeGroups joined
 groups-next xs h = rw (fours-next xs h)
 
 pub controls-next : (xs : List ℕ) → 0 < length xs → map control (fours xs) ≡ control (take 4 xs) ∷ map control (fours (drop 4 xs))
 controls-next xs h = rw (fours-next xs h)
 
-pub fields-next : (xs : List ℕ) → fields xs ≡ fields (take 4 xs) ++ fields (drop 4 xs)
-fields-next xs = ap fields (sym (take-append-drop 4 xs)) ∙ fields-append (take 4 xs) (drop 4 xs)
+pub data-next : (xs : List ℕ) → dataBytes xs ≡ dataBytes (take 4 xs) ++ dataBytes (drop 4 xs)
+data-next xs = ap dataBytes (sym (take-append-drop 4 xs)) ∙ data-append (take 4 xs) (drop 4 xs)
 
 pub controls-count : (xs : List ℕ) → length (map control (fours xs)) ≡ groupCount (length xs)
 controls-count xs = length-map (fours xs) control ∙ fours-count xs
@@ -79,24 +79,24 @@ groups-small =
     by-fours (λ (xs : List ℕ). Below 256 (writeGroups xs))
     (below-nil 256 (omega arith))
     (λ xs h ih. rw (groups-next xs h)
-    (below-cons 256 (control (take 4 xs)) (fields (take 4 xs) ++ writeGroups (drop 4 xs)) (control-byte (take 4 xs) (omega (arith, length-take 4 xs)))
-    (below-append 256 (fields (take 4 xs)) (writeGroups (drop 4 xs)) (fields-small (take 4 xs)) ih)))
+    (below-cons 256 (control (take 4 xs)) (dataBytes (take 4 xs) ++ writeGroups (drop 4 xs)) (control-byte (take 4 xs) (omega (arith, length-take 4 xs)))
+    (below-append 256 (dataBytes (take 4 xs)) (writeGroups (drop 4 xs)) (data-small (take 4 xs)) ih)))
 
 -- a control byte for each group, and the data
-groups-more : (xs : List ℕ) → 0 < length xs → length (writeGroups (drop 4 xs)) ≡ groupCount (length (drop 4 xs)) + length (fields (drop 4 xs))
-    → length (writeGroups xs) ≡ groupCount (length xs) + length (fields xs)
+groups-more : (xs : List ℕ) → 0 < length xs → length (writeGroups (drop 4 xs)) ≡ groupCount (length (drop 4 xs)) + length (dataBytes (drop 4 xs))
+    → length (writeGroups xs) ≡ groupCount (length xs) + length (dataBytes xs)
 unfolding groupCount
 groups-more xs h ih =
     let w = ap length (groups-next xs h) in
-    let v = length-append (fields (take 4 xs)) (writeGroups (drop 4 xs)) in
-    let f = ap length (fields-next xs) ∙ length-append (fields (take 4 xs)) (fields (drop 4 xs)) in
+    let v = length-append (dataBytes (take 4 xs)) (writeGroups (drop 4 xs)) in
+    let f = ap length (data-next xs) ∙ length-append (dataBytes (take 4 xs)) (dataBytes (drop 4 xs)) in
     let d = length-drop 4 xs in
     omega arith
 
-pub groups-size : (xs : List ℕ) → length (writeGroups xs) ≡ groupCount (length xs) + length (fields xs)
-unfolding writeGroups joined fours groupCount fields
-groups-size = by-fours (λ (xs : List ℕ). length (writeGroups xs) ≡ groupCount (length xs) + length (fields xs)) refl groups-more
+pub groups-size : (xs : List ℕ) → length (writeGroups xs) ≡ groupCount (length xs) + length (dataBytes xs)
+unfolding writeGroups joined fours groupCount dataBytes
+groups-size = by-fours (λ (xs : List ℕ). length (writeGroups xs) ≡ groupCount (length xs) + length (dataBytes xs)) refl groups-more
 
-pub stream-size : (xs : List ℕ) → length (writeStream xs) ≡ groupCount (length xs) + length (fields xs)
+pub stream-size : (xs : List ℕ) → length (writeStream xs) ≡ groupCount (length xs) + length (dataBytes xs)
 unfolding writeStream
-stream-size xs = length-append (map control (fours xs)) (fields xs) ∙ ap (λ (n : ℕ). n + length (fields xs)) (controls-count xs)
+stream-size xs = length-append (map control (fours xs)) (dataBytes xs) ∙ ap (λ (n : ℕ). n + length (dataBytes xs)) (controls-count xs)

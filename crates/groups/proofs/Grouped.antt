@@ -7,7 +7,7 @@ use native.Mathlib.Omega.{arith}
 use lib.ListN.{length, getD, take, drop, length-append, length-take, take-append-drop}
 use Rattle.meaning.specs.Answer.{given}
 use Rattle.meaning.specs.Codes.{always}
-use Rattle.meaning.specs.Fields.{fields}
+use Rattle.meaning.specs.DataBytes.{dataBytes}
 use Rattle.meaning.specs.Groups.{control, groupAt}
 use Rattle.meaning.specs.Limits.{numberLimit}
 use Rattle.meaning.specs.Places.{Below}
@@ -23,10 +23,10 @@ use Rattle.groups.proofs.OneGroup.{written-at, many-at, there-at, back-
 pub record First (g : Layout) (body : List ℕ) (p : Position) (ys : List ℕ) : Type 0 where
   pub there : g .head p < length body
   pub byte : getD body (g .head p) 0 ≡ control ys
-  pub is : drop (g .from p) body ≡ fields ys ++ drop (g .from p + length (fields ys)) body
+  pub is : drop (g .from p) body ≡ dataBytes ys ++ drop (g .from p + length (dataBytes ys)) body
 
 abbrev pub after : Layout → Position → List ℕ → Position
-after g p ys = g .next p (g .from p + length (fields ys))
+after g p ys = g .next p (g .from p + length (dataBytes ys))
 
 -- `At p xs`: the body holds exactly the groups of xs from p on, so the first and then the others
 pub record Chain (g : Layout) (body : List ℕ) (At : Position → List ℕ → Type 0) : Type 0 where
@@ -93,7 +93,7 @@ module _ (g : Layout) (body : List ℕ) where
         record {
           there = there-at body (suc n) (g .head p) (g .from p) (t .end, ys) (t .group);
           byte = b .byte;
-          is = b .is ∙ ap (λ (m : ℕ). fields ys ++ drop m body) (b .ends);
+          is = b .is ∙ ap (λ (m : ℕ). dataBytes ys ++ drop m body) (b .ends);
         } in (
           join p ys zs (omega (arith, many)) (omega (arith, many)) first (subst (λ (q : Position). At q zs) at (h .0)),
           below-append numberLimit ys zs (b .small) (h .1),

@@ -10,7 +10,7 @@ use lib.Seq.{drop-append-seam, drop-drop, drop-cons, take-at, drop-at}
 use borrow.Author.Tests.{eq-eqb, eqb-true, le-leb}
 use Rattle.meaning.specs.Answer.{given}
 use Rattle.meaning.specs.Codes.{codeGroups, codeStream, readCode, always, toLast}
-use Rattle.meaning.specs.Fields.{fields}
+use Rattle.meaning.specs.DataBytes.{dataBytes}
 use Rattle.meaning.specs.Groups.{fours, groupCount, control, writeGroups, writeStream, unitGroups, unitStream}
 use Rattle.meaning.specs.Limits.{fault, numberLimit}
 use Rattle.meaning.specs.Lists.{joined}
@@ -22,9 +22,9 @@ use Rattle.meaning.proofs.Bounds.{below-append}
 use Rattle.meaning.proofs.Codes.{spare-always}
 use Rattle.meaning.proofs.Lawful.{Lawful, Read}
 use Rattle.meaning.proofs.Units.{Whole, read-many, read-written, read-holds}
-use Rattle.fields.proofs.Fields.{fields-most, fields-small}
+use Rattle.words.proofs.DataBytes.{data-most, data-small}
 use Rattle.groups.specs.Layouts.{unitBy, behind, apart, toTail}
-use Rattle.groups.proofs.Fours.{groups-next, controls-next, fields-next, controls-count, controls-small, groups-small, groups-size, stream-size}
+use Rattle.groups.proofs.Fours.{groups-next, controls-next, data-next, controls-count, controls-small, groups-small, groups-size, stream-size}
 use Rattle.groups.proofs.Grouped.{First, Chain, good, unit-faulty, whole, Holds}
 
 -- ---- group of four: the data follows its control byte
@@ -33,24 +33,24 @@ record GroupsAt (body : List ℕ) (at : ℕ) (xs : List ℕ) : Type 0 where
   pub bytes : drop at body ≡ writeGroups xs
 
 groups-apart : (body : List ℕ) (p : Position) (xs : List ℕ) → 0 < length xs → GroupsAt body (p .head .byte) xs
-    → First behind body p (take 4 xs) × GroupsAt body (p .head .byte + 1 + length (fields (take 4 xs))) (drop 4 xs)
+    → First behind body p (take 4 xs) × GroupsAt body (p .head .byte + 1 + length (dataBytes (take 4 xs))) (drop 4 xs)
 groups-apart body p xs some h =
     let at = p .head .byte in
     let ys = take 4 xs in
-    let is : drop at body ≡ control ys ∷ (fields ys ++ writeGroups (drop 4 xs)) = h .bytes ∙ groups-next xs some in
-    let n : suc (length (fields ys) + length (writeGroups (drop 4 xs))) ≡ length body - at =
-    ap suc (sym (length-append (fields ys) (writeGroups (drop 4 xs)))) ∙ sym (ap length is) ∙ length-drop at body in
+    let is : drop at body ≡ control ys ∷ (dataBytes ys ++ writeGroups (drop 4 xs)) = h .bytes ∙ groups-next xs some in
+    let n : suc (length (dataBytes ys) + length (writeGroups (drop 4 xs))) ≡ length body - at =
+    ap suc (sym (length-append (dataBytes ys) (writeGroups (drop 4 xs)))) ∙ sym (ap length is) ∙ length-drop at body in
     let there : at < length body = omega arith in
-    let cons : getD body at 0 ∷ drop (suc at) body ≡ control ys ∷ (fields ys ++ writeGroups (drop 4 xs)) = sym (drop-cons body at 0 there) ∙ is in
-    let tail : drop (at + 1) body ≡ fields ys ++ writeGroups (drop 4 xs) = rw add-one (cc) in
-    let rest : drop (at + 1 + length (fields ys)) body ≡ writeGroups (drop 4 xs) =
-    sym (drop-drop (length (fields ys)) (at + 1) body) ∙ rw tail (drop-append-seam (fields ys) (writeGroups (drop 4 xs))) in (
+    let cons : getD body at 0 ∷ drop (suc at) body ≡ control ys ∷ (dataBytes ys ++ writeGroups (drop 4 xs)) = sym (drop-cons body at 0 there) ∙ is in
+    let tail : drop (at + 1) body ≡ dataBytes ys ++ writeGroups (drop 4 xs) = rw add-one (cc) in
+    let rest : drop (at + 1 + length (dataBytes ys)) body ≡ writeGroups (drop 4 xs) =
+    sym (drop-drop (length (dataBytes ys)) (at + 1) body) ∙ rw tail (drop-append-seam (dataBytes ys) (writeGroups (drop 4 xs))) in (
       record { there = there; byte = cc; is = rw rest tail },
       record { inside = omega arith; bytes = rest },
     )
 
 groups-together : (body : List ℕ) (p : Position) (xs : List ℕ) → 0 < length xs → First behind body p (take 4 xs)
-    → GroupsAt body (p .head .byte + 1 + length (fields (take 4 xs))) (drop 4 xs) → GroupsAt body (p .head .byte) xs
+    → GroupsAt body (p .head .byte + 1 + length (dataBytes (take 4 xs))) (drop 4 xs) → GroupsAt body (p .head .byte) xs
 groups-together body p xs some first rest =
     let at = p .head .byte in
     let ys = take 4 xs in
@@ -58,7 +58,7 @@ groups-together body p xs some first rest =
       inside = omega (arith, first .there);
       bytes =
           drop-cons body at 0 (first .there)
-          ∙ ap₂ (λ (b : ℕ) (l : List ℕ). b ∷ l) (first .byte) (rw (← (add-one at)) (first .is ∙ ap (λ (l : List ℕ). fields ys ++ l) (rest .bytes)))
+          ∙ ap₂ (λ (b : ℕ) (l : List ℕ). b ∷ l) (first .byte) (rw (← (add-one at)) (first .is ∙ ap (λ (l : List ℕ). dataBytes ys ++ l) (rest .bytes)))
           ∙ sym (groups-next xs some);
     }
 
@@ -101,7 +101,7 @@ lawful-groups =
       fresh = spare-always [];
       forth = groups-forth;
       back = groups-back;
-      most = λ xs small. omega (arith, groups-size xs, fields-most xs);
+      most = λ xs small. omega (arith, groups-size xs, data-most xs);
       bytes = λ xs small. groups-small xs;
       grows = λ k n h. omega arith;
       nine = λ n. omega arith;
@@ -111,7 +111,7 @@ lawful-groups =
 record StreamAt (body : List ℕ) (c d : ℕ) (xs : List ℕ) : Type 0 where
   pub inside : d ≤ length body
   pub controls : part body c (groupCount (length xs)) ≡ map control (fours xs)
-  pub bytes : drop d body ≡ fields xs
+  pub bytes : drop d body ≡ dataBytes xs
 
 -- a group more
 count-next : (n : ℕ) → 0 < n → groupCount n ≡ suc (groupCount (n - 4))
@@ -119,7 +119,7 @@ unfolding groupCount
 count-next n h = omega arith
 
 stream-apart : (body : List ℕ) (p : Position) (xs : List ℕ) → 0 < length xs → StreamAt body (p .head .byte) (p .tail .byte) xs
-    → First apart body p (take 4 xs) × StreamAt body (p .head .byte + 1) (p .tail .byte + length (fields (take 4 xs))) (drop 4 xs)
+    → First apart body p (take 4 xs) × StreamAt body (p .head .byte + 1) (p .tail .byte + length (dataBytes (take 4 xs))) (drop 4 xs)
 stream-apart body p xs some h =
     let at = p .head .byte in
     let from = p .tail .byte in
@@ -129,17 +129,17 @@ stream-apart body p xs some h =
     let there : at < length body = omega (arith, length-drop at body) in
     let cons : getD body at 0 ∷ take (groupCount (length (drop 4 xs))) (drop (suc at) body) ≡ control ys ∷ map control (fours (drop 4 xs)) =
     ap (take (suc (groupCount (length (drop 4 xs))))) (sym (drop-cons body at 0 there)) ∙ (rw m at (h .controls)) ∙ controls-next xs some in
-    let split = h .bytes ∙ fields-next xs in
-    let n : length (fields ys) + length (fields (drop 4 xs)) ≡ length body - from =
-    sym (length-append (fields ys) (fields (drop 4 xs))) ∙ sym (ap length split) ∙ length-drop from body in
-    let rest : drop (from + length (fields ys)) body ≡ fields (drop 4 xs) =
-    sym (drop-drop (length (fields ys)) from body) ∙ rw split (drop-append-seam (fields ys) (fields (drop 4 xs))) in (
+    let split = h .bytes ∙ data-next xs in
+    let n : length (dataBytes ys) + length (dataBytes (drop 4 xs)) ≡ length body - from =
+    sym (length-append (dataBytes ys) (dataBytes (drop 4 xs))) ∙ sym (ap length split) ∙ length-drop from body in
+    let rest : drop (from + length (dataBytes ys)) body ≡ dataBytes (drop 4 xs) =
+    sym (drop-drop (length (dataBytes ys)) from body) ∙ rw split (drop-append-seam (dataBytes ys) (dataBytes (drop 4 xs))) in (
       record { there = there; byte = cc; is = rw rest split },
       record { inside = omega (arith, h .inside); controls = rw add-one (cc); bytes = rest },
     )
 
 stream-together : (body : List ℕ) (p : Position) (xs : List ℕ) → 0 < length xs → First apart body p (take 4 xs)
-    → StreamAt body (p .head .byte + 1) (p .tail .byte + length (fields (take 4 xs))) (drop 4 xs) → StreamAt body (p .head .byte) (p .tail .byte) xs
+    → StreamAt body (p .head .byte + 1) (p .tail .byte + length (dataBytes (take 4 xs))) (drop 4 xs) → StreamAt body (p .head .byte) (p .tail .byte) xs
 stream-together body p xs some first rest =
     let at = p .head .byte in
     let from = p .tail .byte in
@@ -150,7 +150,7 @@ stream-together body p xs some first rest =
       controls =
           rw (m, drop-cons body at 0 (first .there), first .byte, ← (add-one at)) (ap (λ (l : List ℕ). control ys ∷ l) (rest .controls))
           ∙ sym (controls-next xs some);
-      bytes = first .is ∙ ap (λ (l : List ℕ). fields ys ++ l) (rest .bytes) ∙ sym (fields-next xs);
+      bytes = first .is ∙ ap (λ (l : List ℕ). dataBytes ys ++ l) (rest .bytes) ∙ sym (data-next xs);
     }
 
 abbrev StreamHolds : List ℕ → Position → List ℕ → Type 0
@@ -160,7 +160,7 @@ stream-chain : (body : List ℕ) → Chain apart body (StreamHolds body)
 stream-chain body = record { apart = stream-apart body; together = stream-together body }
 
 stream-whole : (body : List ℕ) → Below 256 body → Whole (unitBy apart body) always (toTail body) (Holds apart body (StreamHolds body) (stream-chain body))
-unfolding fields joined fours groupCount
+unfolding dataBytes joined fours groupCount
 stream-whole body low =
     whole apart body (StreamHolds body) (stream-chain body) (toTail body) low
     (λ p h. let n = sym (length-drop (p .tail .byte) body) ∙ ap length (h .bytes) in eq-eqb (p .tail .byte) (length body) (omega (arith, h .inside)))
@@ -169,16 +169,16 @@ stream-whole body low =
 
 stream-small : (xs : List ℕ) → Below 256 (writeStream xs)
 unfolding writeStream
-stream-small xs = below-append 256 (map control (fours xs)) (fields xs) (controls-small xs) (fields-small xs)
+stream-small xs = below-append 256 (map control (fours xs)) (dataBytes xs) (controls-small xs) (data-small xs)
 
 -- a written body holds its list
 stream-at : (xs : List ℕ) → StreamAt (writeStream xs) 0 (groupCount (length xs)) xs
 unfolding writeStream
 stream-at xs =
     record {
-      inside = omega (arith, length-append (map control (fours xs)) (fields xs), controls-count xs);
-      controls = take-at (map control (fours xs)) (fields xs) (groupCount (length xs)) (controls-count xs);
-      bytes = drop-at (map control (fours xs)) (fields xs) (groupCount (length xs)) (controls-count xs);
+      inside = omega (arith, length-append (map control (fours xs)) (dataBytes xs), controls-count xs);
+      controls = take-at (map control (fours xs)) (dataBytes xs) (groupCount (length xs)) (controls-count xs);
+      bytes = drop-at (map control (fours xs)) (dataBytes xs) (groupCount (length xs)) (controls-count xs);
     }
 
 stream-forth : (xs : List ℕ) → Below numberLimit xs → readCode codeStream (writeStream xs) (length xs) ≡ given xs
@@ -215,7 +215,7 @@ lawful-stream =
       fresh = spare-always [];
       forth = stream-forth;
       back = stream-back;
-      most = λ xs small. omega (arith, stream-size xs, fields-most xs);
+      most = λ xs small. omega (arith, stream-size xs, data-most xs);
       bytes = λ xs small. stream-small xs;
       grows = λ k n h. omega arith;
       nine = λ n. omega arith;

@@ -7,15 +7,15 @@ use native.Mathlib.Numerals.{add-one}
 use native.Mathlib.Omega.{arith}
 use lib.ListN.{length, getD, take, drop, set, length-append, length-take, length-drop}
 use lib.Seq.{sets, length-sets, take-nil, take-all, take-take, drop-drop, drop-cons}
-use Rattle.meaning.specs.Fields.{byteLength, fewest, fields}
+use Rattle.meaning.specs.DataBytes.{byteLength, fewest, dataBytes}
 use Rattle.meaning.specs.Groups.{fours, groupCount, controlOf, control, writeGroups}
 use Rattle.meaning.specs.Lists.{joined}
 use Rattle.meaning.specs.Places.{Wrote, part}
 use Rattle.meaning.specs.declared.Offset.{Offset}
 use Rattle.meaning.proofs.Stores.{sets-append}
 use Rattle.meaning.proofs.Tests.{by-order}
-use Rattle.fields.proofs.Fields.{few-length, fields-cons, fields-most}
-use Rattle.groups.specs.Parts.{fieldsOf, controlsOf, groupsOf}
+use Rattle.words.proofs.DataBytes.{few-length, data-cons, data-most}
+use Rattle.groups.specs.Parts.{dataOf, controlsOf, groupsOf}
 use Rattle.groups.proofs.Fours.{groups-next, controls-next, controls-count, groups-size}
 
 -- ---- the bytes of n numbers, `bytes place count`, of which those from number i on are still to be put: putting them makes the whole
@@ -94,9 +94,9 @@ part-four xs from m k e =
 
 -- ---- what each loop puts, and what one turn of it puts first
 module _ (xs : List ℕ) where
-  pub fields-none : (place : ℕ) → fieldsOf xs place 0 ≡ []
-  unfolding fields joined
-  fields-none place = refl
+  pub data-none : (place : ℕ) → dataOf xs place 0 ≡ []
+  unfolding dataBytes joined
+  data-none place = refl
 
   pub controls-none : (place : ℕ) → controlsOf xs place 0 ≡ []
   unfolding fours
@@ -107,8 +107,8 @@ module _ (xs : List ℕ) where
   groups-none place = refl
 
   module _ (from left : ℕ) (some : 0 < left) (inside : from + left ≤ length xs) where
-    pub fields-turn : fieldsOf xs from left ≡ fewest (getD xs from 0) ++ fieldsOf xs (from + 1) (left - 1)
-    fields-turn = rw (part-next xs from left some inside) (fields-cons (getD xs from 0) (part xs (from + 1) (left - 1)))
+    pub data-turn : dataOf xs from left ≡ fewest (getD xs from 0) ++ dataOf xs (from + 1) (left - 1)
+    data-turn = rw (part-next xs from left some inside) (data-cons (getD xs from 0) (part xs (from + 1) (left - 1)))
 
     module _ (k : ℕ) (next : k ≡ min 4 left) where
       some-part : 0 < length (part xs from left)
@@ -117,13 +117,13 @@ module _ (xs : List ℕ) where
       pub controls-turn : controlsOf xs from left ≡ control (part xs from k) ∷ controlsOf xs (from + k) (left - k)
       controls-turn = let (front, back) = part-four xs from left k next in controls-next (part xs from left) some-part ∙ rw (front, back)
 
-      pub groups-turn : groupsOf xs from left ≡ control (part xs from k) ∷ (fields (part xs from k) ++ groupsOf xs (from + k) (left - k))
+      pub groups-turn : groupsOf xs from left ≡ control (part xs from k) ∷ (dataBytes (part xs from k) ++ groupsOf xs (from + k) (left - k))
       groups-turn = let (front, back) = part-four xs from left k next in groups-next (part xs from left) some-part ∙ rw (front, back)
 
   -- at most 4 bytes a number, one a group
   module _ (from n : ℕ) (inside : from + n ≤ length xs) where
-    pub fields-bound : length (fieldsOf xs from n) ≤ 4 * n
-    fields-bound = omega (arith, fields-most (part xs from n), part-length xs from n inside)
+    pub data-bound : length (dataOf xs from n) ≤ 4 * n
+    data-bound = omega (arith, data-most (part xs from n), part-length xs from n inside)
 
     pub controls-bound : length (controlsOf xs from n) ≤ n
     unfolding groupCount
@@ -131,7 +131,7 @@ module _ (xs : List ℕ) where
 
     pub groups-bound : length (groupsOf xs from n) ≤ 5 * n
     unfolding groupCount
-    groups-bound = omega (arith, groups-size (part xs from n), fields-bound, part-length xs from n inside)
+    groups-bound = omega (arith, groups-size (part xs from n), data-bound, part-length xs from n inside)
 
 -- before a group there is room for its control byte
 pub groups-room : (xs : List ℕ) {from n at : ℕ} {out₀ out : List ℕ} {to i : ℕ} → PutSo (groupsOf xs) from n at out₀ out to i → from + n ≤ length xs → i < n

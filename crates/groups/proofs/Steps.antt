@@ -11,7 +11,7 @@ use lib.Seq.{drop-drop, set-at, take-at, drop-at}
 use borrow.Author.Tests.{lt-ltb, le-ltb, le-leb, lt-leb, eq-eqb, ne-eqb}
 use Rattle.meaning.specs.Answer.{Answer, given, refused, bind, need}
 use Rattle.meaning.specs.Bytes.{numberOf}
-use Rattle.meaning.specs.Fields.{byteLength, fieldsIn}
+use Rattle.meaning.specs.DataBytes.{byteLength, dataIn}
 use Rattle.meaning.specs.Groups.{lengthsIn, groupIn, groupAt}
 use Rattle.meaning.specs.Limits.{fault, unitPlaces}
 use Rattle.meaning.specs.Lists.{sum}
@@ -68,28 +68,28 @@ module _ (body : List ℕ) (m c to : ℕ) where
 
   module _ (l x : ℕ) (el : l ≡ c % 4 + 1) (ex : x ≡ numberOf (take l (drop to body))) where
     field-long : (byteLength x ≡ l → ⊥) → groupFrom body (suc m) c to ≡ refused fault
-    unfolding groupFrom groupIn lengthsIn sum fieldsIn
+    unfolding groupFrom groupIn lengthsIn sum dataIn
     field-long h =
         rw (← el, ← ex, ne-eqb (byteLength x) l h)
         (needs-refused (leb (l + sum others) (length (drop to body))) (eqb (c / 4 ^ suc m) 0) (λ xs. given (to + (l + sum others), xs)))
 
     field-next : l ≤ length body - to → byteLength x ≡ l → groupFrom body (suc m) c to ≡ bind (groupFrom body m (c / 4) (to + l)) (λ t. given (t .0, x ∷ t .1))
-    unfolding groupFrom groupIn lengthsIn sum fieldsIn
+    unfolding groupFrom groupIn lengthsIn sum dataIn
     field-next fits e =
         let there : leb (l + sum others) (length (drop to body)) ≡ leb (sum others) (length (drop (to + l) body)) =
         leb-after l (sum others) (length (drop to body)) (omega (arith, length-drop to body))
         ∙ ap (leb (sum others)) (omega (arith, length-drop to body, length-drop (to + l) body)) in
         rw (← el, ← ex, eq-eqb (byteLength x) l e, there, quarter c m, drop-drop l to body, ← (add-assoc to l (sum others)))
-        (first-moves (leb (sum others) (length (drop (to + l) body))) (eqb (c / 4 / 4 ^ m) 0) (fieldsIn others (drop (to + l) body)) x (to + l + sum others))
+        (first-moves (leb (sum others) (length (drop (to + l) body))) (eqb (c / 4 / 4 ^ m) 0) (dataIn others (drop (to + l) body)) x (to + l + sum others))
 
 -- after the last field
 module _ (body : List ℕ) (c to : ℕ) where
   field-used : (c ≡ 0 → ⊥) → groupFrom body 0 c to ≡ refused fault
-  unfolding groupFrom groupIn lengthsIn sum fieldsIn
+  unfolding groupFrom groupIn lengthsIn sum dataIn
   field-used h = rw (le-leb 0 (length (drop to body)) (omega arith), div-one c, ne-eqb c 0 h)
 
   field-none : c ≡ 0 → groupFrom body 0 c to ≡ given (to, [])
-  unfolding groupFrom groupIn lengthsIn sum fieldsIn
+  unfolding groupFrom groupIn lengthsIn sum dataIn
   field-none h = rw (le-leb 0 (length (drop to body)) (omega arith), div-one c, eq-eqb c 0 h, add-zero to)
 
 -- ---- field by field

@@ -11,7 +11,7 @@ use borrow.Author.Tests.{lt-ltb, le-ltb}
 use Rattle.meaning.specs.Answer.{given}
 use Rattle.meaning.specs.Bytes.{numberOf, wordAt}
 use Rattle.meaning.specs.Codes.{Code, codeGroups, codeStream}
-use Rattle.meaning.specs.Fields.{byteLength}
+use Rattle.meaning.specs.DataBytes.{byteLength}
 use Rattle.meaning.specs.Groups.{groupAt, unitGroups, unitStream}
 use Rattle.meaning.specs.Places.{Below, Spare, Took, Ends}
 use Rattle.meaning.specs.declared.Position.{Position}
@@ -19,8 +19,8 @@ use Rattle.meaning.specs.declared.Taken.{Taken}
 use Rattle.meaning.proofs.Bounds.{below-drop, below-take}
 use Rattle.meaning.proofs.Codes.{spare-always}
 use Rattle.meaning.proofs.Taking.{Takes, takes-start, takes-next, takes-long, takes-end, took-none}
-use Rattle.fields.proofs.Bytes.{number-small}
-use Rattle.fields.proofs.Straight.{number-1, number-2, number-3, number-4}
+use Rattle.words.proofs.Bytes.{number-small}
+use Rattle.words.proofs.Straight.{number-1, number-2, number-3, number-4}
 use Rattle.groups.specs.Layouts.{Layout, unitBy, behind, apart}
 use Rattle.groups.specs.Whole.{largestNumbers, leastNumbers, Room, Stands, GroupTaken}
 use Rattle.groups.proofs.Steps.{So, so-start, so-next, so-end, at-there}

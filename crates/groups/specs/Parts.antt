@@ -1,13 +1,13 @@
 -- What is written of m numbers of a slice from a place on.
 use Prim.Native.Nat.{ℕ}
 use mathlib.Core.List.{List, map}
-use Rattle.meaning.specs.Fields.{fields}
+use Rattle.meaning.specs.DataBytes.{dataBytes}
 use Rattle.meaning.specs.Groups.{fours, control, writeGroups}
 use Rattle.meaning.specs.Places.{part}
 
 -- their data
-abbrev pub fieldsOf : List ℕ → ℕ → ℕ → List ℕ
-fieldsOf xs from m = fields (part xs from m)
+abbrev pub dataOf : List ℕ → ℕ → ℕ → List ℕ
+dataOf xs from m = dataBytes (part xs from m)
 
 -- their control bytes
 abbrev pub controlsOf : List ℕ → ℕ → ℕ → List ℕ

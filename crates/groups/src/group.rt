@@ -1,6 +1,4 @@
 // One group read with all its rules, wherever its control byte and its data stand in a body.
-use fields::byte_length;
-use fields::number_at;
 use leaves::lesser;
 use leaves::wide;
 use meaning::Bit;
@@ -9,6 +7,8 @@ use meaning::Offset;
 use meaning::Position;
 use meaning::Unit;
 use meaning::UnitRead;
+use words::byte_length;
+use words::number_at;
 ghost use mathlib.Core.Path.{_≡_};
 ghost use Prim.Native.Nat.{_<_, _≤_, _-_};
 ghost use lib.ListN.{length};

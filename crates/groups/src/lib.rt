@@ -4,7 +4,7 @@ use crate::group::DataAt;
 use crate::group::group_at;
 use crate::put::control_of;
 use crate::put::put_controls;
-use crate::put::put_fields;
+use crate::put::put_data;
 use leaves::lesser;
 use leaves::put;
 use meaning::Offset;
@@ -37,7 +37,7 @@ pub fn write_groups(list: &[u32], from: Place, n: usize, out: &mut [u8], at: Off
         let place = first + i;
         put(out, to, control_of(list, Place { number: place }, k));
         let data = to.byte + 1;
-        to = put_fields(list, Place { number: place }, k, out, Offset { byte: data });
+        to = put_data(list, Place { number: place }, k, out, Offset { byte: data });
         i += k;
     }
     to
@@ -49,7 +49,7 @@ pub fn write_stream(list: &[u32], from: Place, n: usize, out: &mut [u8], at: Off
     ensures { λ r. ⌜ Wrote (codeStream .write (part (now (list .entry)) (from .number) n)) (at .byte) (now (out .entry)) (now (out .exit)) r ⌝ }
 {
     let start = put_controls(list, from, n, out, at);
-    put_fields(list, from, n, out, start)
+    put_data(list, from, n, out, start)
 }
 
 // Reads the group at a position of code 2.

@@ -1,17 +1,17 @@
 // Control bytes and data put into an output.
-use fields::byte_length;
-use fields::put_fewest;
 use leaves::lesser;
 use leaves::put;
 use meaning::Offset;
 use meaning::Place;
+use words::byte_length;
+use words::put_fewest;
 ghost use mathlib.Core.Path.{_≡_};
 ghost use Prim.Native.Nat.{_+_, _-_, _*_, _<_, _≤_, _^_};
 ghost use lib.ListN.{length};
-ghost use Rattle.meaning.specs.Fields.{byteLength};
+ghost use Rattle.meaning.specs.DataBytes.{byteLength};
 ghost use Rattle.meaning.specs.Groups.{control};
 ghost use Rattle.meaning.specs.Places.{Wrote, part};
-ghost use Rattle.groups.specs.Parts.{controlsOf, fieldsOf};
+ghost use Rattle.groups.specs.Parts.{controlsOf, dataOf};
 
 // What a number's field says: its length minus one.
 fn field_of(x: u32) -> usize
@@ -68,9 +68,9 @@ pub fn put_controls(list: &[u32], from: Place, n: usize, out: &mut [u8], at: Off
 }
 
 // Puts the data of n numbers from a place on, and answers the offset after it.
-pub fn put_fields(list: &[u32], from: Place, n: usize, out: &mut [u8], at: Offset) -> Offset
+pub fn put_data(list: &[u32], from: Place, n: usize, out: &mut [u8], at: Offset) -> Offset
     requires { ⌜ (from .number + n ≤ length (now list)) × (at .byte + 4 * n < 2 ^ 63) ⌝ }
-    ensures { λ r. ⌜ Wrote (fieldsOf (now (list .entry)) (from .number) n) (at .byte) (now (out .entry)) (now (out .exit)) r ⌝ }
+    ensures { λ r. ⌜ Wrote (dataOf (now (list .entry)) (from .number) n) (at .byte) (now (out .entry)) (now (out .exit)) r ⌝ }
 {
     let first = from.number;
     let mut to = at;

@@ -1,7 +1,6 @@
 // Whole groups of four, taken where 16 bytes of data are there: each number is one load of four bytes. Nothing is refused here: at anything else the
 // loop stops.
 use crate::group::bytes_from;
-use fields::word_at;
 use leaves::lesser;
 use leaves::taken;
 use leaves::wide;
@@ -10,6 +9,7 @@ use meaning::Offset;
 use meaning::Place;
 use meaning::Position;
 use meaning::Taken;
+use words::word_at;
 ghost use mathlib.Core.Path.{_≡_};
 ghost use Prim.Native.Nat.{_+_, _<_, _≤_};
 ghost use lib.ListN.{length, take, drop};

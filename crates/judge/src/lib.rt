@@ -15,10 +15,11 @@ ghost use mathlib.Core.Path.{_≡_};
 ghost use lib.Dec.{eqb};
 ghost use lib.ListN.{drop};
 ghost use Rattle.meaning.specs.Answer.{need};
+ghost use Rattle.meaning.specs.Contracts.{Judges, Sizes};
 ghost use Rattle.meaning.specs.Limits.{badOrders};
 ghost use Rattle.meaning.specs.Lists.{all};
-ghost use Rattle.meaning.specs.Plan.{wellFormed, judgePlan, judge as judgeOf, worstSize};
-ghost use Rattle.meaning.specs.Says.{judgedSays, sizedSays};
+ghost use Rattle.meaning.specs.Plan.{wellFormed, judgePlan};
+ghost use Rattle.meaning.specs.Says.{judgedSays};
 
 pub mod stage;
 pub mod tree;
@@ -82,7 +83,7 @@ pub fn judge_plan(kind: u8, plan: &[u8]) -> Judged
 
 // The judge asked alone: a kind above 1 is refused first.
 pub fn judge(kind: u8, plan: &[u8]) -> Judged
-    ensures { λ r. ⌜ judgedSays r ≡ judgeOf kind (now (plan .entry)) ⌝ }
+    ensures { λ r. ⌜ Judges kind (now (plan .entry)) r ⌝ }
 {
     let known = kind <= RISING;
     judge_when(known, kind, plan)
@@ -90,7 +91,7 @@ pub fn judge(kind: u8, plan: &[u8]) -> Judged
 
 // The worst size asked alone: a malformed plan is refused, then n above 1,024.
 pub fn worst_size(plan: &[u8], n: usize) -> Sized
-    ensures { λ r. ⌜ sizedSays r ≡ worstSize (now (plan .entry)) n ⌝ }
+    ensures { λ r. ⌜ Sizes (now (plan .entry)) n r ⌝ }
 {
     let sound = well_formed(plan);
     if !sound {

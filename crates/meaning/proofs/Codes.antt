@@ -8,7 +8,7 @@ use lib.Dec.{ltb, eqb}
 use lib.ListN.{getD}
 use borrow.Author.Tests.{lt-ltb, eqb-true}
 use Rattle.meaning.specs.Codes.{Code, always, codeVByte, codeGroups, codeG8IU, codeStream, codeGamma, codeDelta, codeOf}
-use Rattle.meaning.specs.Fields.{byteLength}
+use Rattle.meaning.specs.DataBytes.{byteLength}
 use Rattle.meaning.specs.Places.{Spare}
 use Rattle.meaning.proofs.Tests.{by-test}
 

@@ -8,7 +8,7 @@ use lib.Seq.{sets, length-sets}
 use borrow.Author.Tests.{lt-ltb}
 use Rattle.meaning.specs.Answer.{given}
 use Rattle.meaning.specs.Codes.{Code}
-use Rattle.meaning.specs.Fields.{byteLength}
+use Rattle.meaning.specs.DataBytes.{byteLength}
 use Rattle.meaning.specs.Places.{Spare, Took, Ends}
 use Rattle.meaning.specs.Units.{Stretch, none, more}
 use Rattle.meaning.specs.declared.Position.{Position}

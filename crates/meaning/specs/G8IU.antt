@@ -9,13 +9,13 @@ use lib.ListN.{length, getD, take, drop, replicate}
 use Rattle.meaning.specs.Answer.{Answer, given, bind, need}
 use Rattle.meaning.specs.Limits.{fault}
 use Rattle.meaning.specs.Lists.{all, sum, joined}
-use Rattle.meaning.specs.Fields.{byteLength, fields, fieldsIn}
+use Rattle.meaning.specs.DataBytes.{byteLength, dataBytes, dataIn}
 use Rattle.meaning.specs.Positions.{atByte}
 use Rattle.meaning.specs.declared.Position.{Position}
 
 -- the next number fits into the block begun
 unfoldable pub fits : List ℕ → ℕ → Bool
-fits taken x = leb (length (fields taken) + byteLength x) 8
+fits taken x = leb (length (dataBytes taken) + byteLength x) 8
 
 -- a list in blocks, of which the first has taken some numbers already
 unfoldable pub blocksFrom : List ℕ → List ℕ → List (List ℕ)
@@ -44,7 +44,7 @@ unfoldable pub blockControl : List ℕ → ℕ
 blockControl ls = numberLow (joined endBits ls ++ replicate (8 - sum ls) 1)
 
 unfoldable pub block : List ℕ → List ℕ
-block xs = blockControl (map byteLength xs) ∷ (fields xs ++ replicate (8 - length (fields xs)) 0)
+block xs = blockControl (map byteLength xs) ∷ (dataBytes xs ++ replicate (8 - length (dataBytes xs)) 0)
 
 unfoldable pub writeG8IU : List ℕ → List ℕ
 writeG8IU xs = joined block (blocks xs)
@@ -64,7 +64,7 @@ blockIn left ls bytes =
     need (leb 1 (length ls)) fault
     (need (leb (length ls) left) fault
     (need (leb (8 - sum ls) 3 || eqb (length ls) left) fault
-    (need (all (eqb 0) (drop (sum ls) bytes)) fault (fieldsIn ls bytes))))
+    (need (all (eqb 0) (drop (sum ls) bytes)) fault (dataIn ls bytes))))
 
 unfoldable pub unitG8IU : List ℕ → ℕ → Position → Answer (Position × List ℕ)
 unitG8IU body left p =

@@ -8,7 +8,7 @@ use lib.ListN.{length, getD, drop}
 use Rattle.meaning.specs.Answer.{Answer, given, bind, need}
 use Rattle.meaning.specs.Limits.{fault}
 use Rattle.meaning.specs.Lists.{sum, joined}
-use Rattle.meaning.specs.Fields.{byteLength, fields, fieldsIn}
+use Rattle.meaning.specs.DataBytes.{byteLength, dataBytes, dataIn}
 use Rattle.meaning.specs.Positions.{atByte, atControl}
 use Rattle.meaning.specs.declared.Position.{Position}
 
@@ -38,16 +38,16 @@ unfoldable pub control : List ℕ → ℕ
 control group = controlOf (map byteLength group)
 
 unfoldable pub writeGroups : List ℕ → List ℕ
-writeGroups xs = joined (λ group. control group ∷ fields group) (fours xs)
+writeGroups xs = joined (λ group. control group ∷ dataBytes group) (fours xs)
 
 unfoldable pub writeStream : List ℕ → List ℕ
-writeStream xs = map control (fours xs) ++ fields xs
+writeStream xs = map control (fours xs) ++ dataBytes xs
 
 -- the k numbers of a group, by its control byte c and the bytes from its data on: the data is there, unused fields are 0, lengths are the fewest
 unfoldable pub groupIn : ℕ → ℕ → List ℕ → Answer (List ℕ)
 groupIn k c bytes =
     need (leb (sum (lengthsIn k c)) (length bytes)) fault
-    (need (eqb (c / 4 ^ k) 0) fault (fieldsIn (lengthsIn k c) bytes))
+    (need (eqb (c / 4 ^ k) 0) fault (dataIn (lengthsIn k c) bytes))
 
 -- a group whose control byte stands at one offset and whose data begins at another: its numbers, and where its data ends
 unfoldable pub groupAt : List ℕ → ℕ → ℕ → ℕ → Answer (ℕ × List ℕ)

@@ -6,7 +6,7 @@ pub mod Bytes
 pub mod Positions
 pub mod Units
 pub mod VByte
-pub mod Fields
+pub mod DataBytes
 pub mod Groups
 pub mod G8IU
 pub mod Bits
@@ -18,4 +18,5 @@ pub mod Sheet
 pub mod Operations
 pub mod Texts
 pub mod Says
+pub mod Contracts
 pub mod Places

@@ -8,7 +8,7 @@ use lib.ListN.{length, getD, take, drop, replicate}
 use lib.Seq.{sets}
 use Rattle.meaning.specs.Answer.{Answer, given, amount}
 use Rattle.meaning.specs.Codes.{Code}
-use Rattle.meaning.specs.Fields.{byteLength}
+use Rattle.meaning.specs.DataBytes.{byteLength}
 use Rattle.meaning.specs.Limits.{mostBytes, unitPlaces}
 use Rattle.meaning.specs.Units.{Stretch}
 use Rattle.meaning.specs.Says.{unitSays, unitCount, readingSays}

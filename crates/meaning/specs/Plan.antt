@@ -25,20 +25,25 @@ planSize (reference p) = 1 + planSize p
 planSize (differences p) = 1 + planSize p
 planSize (runs p q) = 1 + (planSize p + planSize q)
 
--- the plan whose first byte is b, with at most so many stages one within the other, the first of them followed by p and then q
+-- the plan whose first byte is b: a code; or, if a stage may still stand here, a stage over `next`, the plan behind b, and of 18 also `second`, the plan
+-- behind `next`; any other byte is malformed
 abbrev pub planBy : ℕ → ℕ → Plan → Plan → Plan
-planBy stages b p q =
+planBy stages b next second =
     cond (isCode b) (code b)
-    (cond (leb 1 stages && eqb b 16) (reference p)
-    (cond (leb 1 stages && eqb b 17) (differences p)
-    (cond (leb 1 stages && eqb b 18) (runs p q) bad)))
+    (cond (leb 1 stages && eqb b 16) (reference next)
+    (cond (leb 1 stages && eqb b 17) (differences next)
+    (cond (leb 1 stages && eqb b 18) (runs next second) bad)))
 
--- the plan that begins at an offset of the plan bytes
+-- the plan that begins at an offset of the plan bytes, with at most so many stages one within the other
 unfoldable pub planAt : ℕ → List ℕ → ℕ → Plan
 planAt zero bytes at = planBy 0 (getD bytes at 0) bad bad
 planAt (suc stages) bytes at =
-    planBy (suc stages) (getD bytes at 0) (planAt stages bytes (at + 1))
-    (planAt stages bytes (at + 1 + planSize (planAt stages bytes (at + 1))))
+    let next = planAt stages bytes (at + 1) in
+    planBy (suc stages) (getD bytes at 0) next (planAt stages bytes (at + 1 + planSize next))
+
+-- a run stage's plan, by its two inner plans that stand at an offset, one behind the other
+abbrev pub runsAt : ℕ → List ℕ → ℕ → Plan
+runsAt stages bytes at = runs (planAt stages bytes at) (planAt stages bytes (at + planSize (planAt stages bytes at)))
 
 -- the plan of 15 bytes
 unfoldable pub planOf : List ℕ → Plan

@@ -7,7 +7,8 @@ use native.Mathlib.Omega.{arith}
 use borrow.Author.Tests.{le-leb, lt-leb}
 use lib.ListN.{length, getD, take, length-set, length-replicate, length-map}
 use lib.Seq.{take-suc, take-suc-set, take-length}
-use Rattle.meaning.specs.Answer.{Answer, need, amount, filled}
+use Rattle.meaning.specs.Answer.{Answer, need}
+use Rattle.meaning.specs.Contracts.{Fills}
 use Rattle.meaning.specs.Limits.{mostColumns, badOrders}
 use Rattle.meaning.specs.Operations.{Order as OrderMeant, ordersHold, listedBy, writeListed, writeSheet}
 use Rattle.meaning.specs.Says.{sizedSays}
@@ -19,7 +20,7 @@ use Rattle.orders.specs.declared.Order.{Order}
 
 -- what a write tells and leaves, by its answer
 abbrev pub Told : Answer (List ℕ) → List ℕ → Sized → List ℕ → Type 0
-Told a o r o′ = (sizedSays r ≡ amount a) × (o′ ≡ filled a o)
+Told a o r o′ = Fills a o (sizedSays r) o′
 
 -- over 16 orders are no orders
 many : (orders : List OrderMeant) (numbers : List ℕ) → mostColumns < length orders → ordersHold orders numbers ≡ false

@@ -9,7 +9,7 @@ ghost use mathlib.Core.Path.{_≡_};
 ghost use Prim.Native.Nat.{_+_, _≤_};
 ghost use lib.ListN.{length};
 ghost use lib.Seq.{sets};
-ghost use Rattle.meaning.specs.Answer.{amount, filled};
+ghost use Rattle.meaning.specs.Contracts.{Fills};
 ghost use Rattle.meaning.specs.Limits.{planBytes};
 ghost use Rattle.meaning.specs.Says.{sizedSays};
 ghost use Rattle.orders.specs.Gathering.{writeGathered};
@@ -29,7 +29,7 @@ fn put_plan(plan: [u8; 15], plans: &mut [u8], at: Offset)
 
 // Writes a sheet by gathered orders: the writer is called with the orders taken apart.
 pub fn write_gathered(g: Gathered, joined: &[u32], work: &mut [u32], out: &mut [u8]) -> Sized
-    ensures { λ r. ⌜ (sizedSays r ≡ amount (writeGathered g (now (joined .entry)) (length (now (work .entry))) (length (now (out .entry))))) × (now (out .exit) ≡ filled (writeGathered g (now (joined .entry)) (length (now (work .entry))) (length (now (out .entry)))) (now (out .entry))) ⌝ }
+    ensures { λ r. ⌜ Fills (writeGathered g (now (joined .entry)) (length (now (work .entry))) (length (now (out .entry)))) (now (out .entry)) (sizedSays r) (now (out .exit)) ⌝ }
 {
     let n = g.n;
     if MOST_COLUMNS < n {

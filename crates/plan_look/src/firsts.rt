@@ -1,7 +1,6 @@
 // The numbers at the first places by a plan, collected once: no stage looks its inner numbers up one by one.
 use codes::First;
 use codes::firsts_code;
-use fields::word_at;
 use judge::stage::Stage;
 use judge::stage::plan_end;
 use judge::stage::stage_at;
@@ -16,10 +15,11 @@ use stages::raise_firsts;
 use stages::run_fits;
 use stages::spread;
 use stages::sum_firsts;
+use words::word_at;
 ghost use mathlib.Core.Path.{_≡_};
 ghost use Prim.Native.Nat.{suc, _+_, _*_, _≤_};
 ghost use lib.ListN.{length, getD};
-ghost use Rattle.meaning.specs.Plan.{planAt, planSize, runs};
+ghost use Rattle.meaning.specs.Plan.{planAt, runsAt};
 ghost use Rattle.meaning.specs.Stages.{look};
 ghost use Rattle.codes.specs.Firsts.{Firsts};
 ghost use Rattle.stages.specs.Room.{Fits};
@@ -148,7 +148,7 @@ fn firsts_runs(
     from: Place,
 ) -> First
     requires { ⌜ (Fits (now body) (now work) (suc stages) n (from .number)) × (k ≤ n) ⌝ }
-    ensures { λ r. ⌜ Firsts (look (runs (planAt stages (now (plan .entry)) (pos .byte)) (planAt stages (now (plan .entry)) (pos .byte + planSize (planAt stages (now (plan .entry)) (pos .byte))))) (now (body .entry)) n) k (from .number) (now (work .entry)) (now (work .exit)) r ⌝ }
+    ensures { λ r. ⌜ Firsts (look (runsAt stages (now (plan .entry)) (pos .byte)) (now (body .entry)) n) k (from .number) (now (work .entry)) (now (work .exit)) r ⌝ }
 {
     match header_of(body, n) {
         Header::Refused(e) => ended(0, k, e),

@@ -6,7 +6,6 @@ use codes::Total;
 use codes::lookup_code;
 use codes::seek_code;
 use codes::total_code;
-use fields::word_at;
 use judge::stage::Stage;
 use judge::stage::plan_end;
 use judge::stage::stage_at;
@@ -21,10 +20,11 @@ use stages::Sought;
 use stages::header_of;
 use stages::seek_in;
 use stages::total_of;
+use words::word_at;
 ghost use mathlib.Core.Path.{_≡_};
 ghost use Prim.Native.Nat.{_+_, _≤_};
 ghost use Rattle.meaning.specs.Limits.{mostStages};
-ghost use Rattle.meaning.specs.Plan.{planAt, planOf, planSize, runs as runsPlan};
+ghost use Rattle.meaning.specs.Plan.{planAt, planOf, runsAt};
 ghost use Rattle.meaning.specs.Says.{foundSays};
 ghost use Rattle.meaning.specs.Stages.{look, seek, total, within};
 ghost use Rattle.codes.specs.Firsts.{Looked};
@@ -172,7 +172,7 @@ fn lookup_runs(
     place: Place,
 ) -> Found
     requires { ⌜ (Looked (now body) n (place .number)) × (stages ≤ 2) ⌝ }
-    ensures { λ r. ⌜ foundSays r ≡ look (runsPlan (planAt stages (now (plan .entry)) (pos .byte)) (planAt stages (now (plan .entry)) (pos .byte + planSize (planAt stages (now (plan .entry)) (pos .byte))))) (now (body .entry)) n (place .number) ⌝ }
+    ensures { λ r. ⌜ foundSays r ≡ look (runsAt stages (now (plan .entry)) (pos .byte)) (now (body .entry)) n (place .number) ⌝ }
 {
     match header_of(body, n) {
         Header::Refused(e) => Found::Refused(e),

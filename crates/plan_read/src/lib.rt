@@ -1,6 +1,5 @@
 // Strict reading by a plan: the numbers go to work from a place on, scratch after them; bodies of inner plans are parts of the lent slice.
 use codes::read_code;
-use fields::word_at;
 use judge::stage::Stage;
 use judge::stage::plan_end;
 use judge::stage::stage_at;
@@ -13,11 +12,12 @@ use stages::header_of;
 use stages::raise;
 use stages::sum_up;
 use stages::unroll_into;
+use words::word_at;
 ghost use Prim.Native.Nat.{suc, _+_, _*_, _≤_};
 ghost use lib.ListN.{length};
 ghost use Rattle.meaning.specs.Limits.{mostBytes, mostNumbers};
 ghost use Rattle.meaning.specs.Places.{Got};
-ghost use Rattle.meaning.specs.Plan.{planAt, planOf, planSize, runs};
+ghost use Rattle.meaning.specs.Plan.{planAt, planOf, runsAt};
 ghost use Rattle.meaning.specs.Stages.{read};
 ghost use Rattle.stages.specs.Room.{Fits};
 
@@ -66,7 +66,7 @@ fn read_runs(
     from: Place,
 ) -> Reading
     requires { ⌜ Fits (now body) (now work) (suc stages) n (from .number) ⌝ }
-    ensures { λ r. ⌜ Got (read (runs (planAt stages (now (plan .entry)) (pos .byte)) (planAt stages (now (plan .entry)) (pos .byte + planSize (planAt stages (now (plan .entry)) (pos .byte))))) (now (body .entry)) n) (from .number) (now (work .entry)) (now (work .exit)) r ⌝ }
+    ensures { λ r. ⌜ Got (read (runsAt stages (now (plan .entry)) (pos .byte)) (now (body .entry)) n) (from .number) (now (work .entry)) (now (work .exit)) r ⌝ }
 {
     match header_of(body, n) {
         Header::Refused(e) => Reading::Refused(e),

@@ -13,7 +13,7 @@ use Rattle.meaning.specs.Plan.{Plan, bad, code, reference, differences, runs, p
 use Rattle.meaning.specs.Stages.{least, lessBefore, runValues, runLengths, write}
 use Rattle.meaning.specs.declared.Offset.{Offset}
 use Rattle.meaning.proofs.Stores.{sets-append, sets-swap, take-sets, part-sets, part-same}
-use Rattle.fields.proofs.Bytes.{bytes-length}
+use Rattle.words.proofs.Bytes.{bytes-length}
 use Rattle.codes.proofs.Numbered.{laws}
 use Rattle.stages.specs.Runs.{RunsMade}
 use Rattle.stages.specs.Room.{room, cap}

@@ -1,7 +1,6 @@
 // Writing a list by a plan. The lists live in one slice, work: the list from a place on, scratch after it.
 // Bytes are put where they lie within the output, so a call with an empty output tells the size and writes nothing.
 use codes::write_code;
-use fields::put_word;
 use judge::stage::Stage;
 use judge::stage::plan_end;
 use judge::stage::stage_at;
@@ -12,11 +11,12 @@ use stages::gaps_into;
 use stages::least_of;
 use stages::less_into;
 use stages::runs_into;
+use words::put_word;
 ghost use Prim.Native.Nat.{_+_, _*_, _^_, _≤_, _<_};
 ghost use lib.ListN.{length, take};
 ghost use Rattle.meaning.specs.Limits.{mostNumbers};
 ghost use Rattle.meaning.specs.Places.{part};
-ghost use Rattle.meaning.specs.Plan.{planAt, planOf, planSize, runs};
+ghost use Rattle.meaning.specs.Plan.{planAt, planOf, runsAt};
 ghost use Rattle.plan_write.specs.Written.{Fit, FitRuns, Written};
 
 // Writes n numbers by the plan that begins at an offset of the plan's bytes. Answers where their bytes end.
@@ -83,7 +83,7 @@ fn write_runs(
     at: Offset,
 ) -> Offset
     requires { ⌜ FitRuns stages n (from .number) (at .byte) (length (now work)) ⌝ }
-    ensures { λ r. ⌜ Written (runs (planAt stages (now (plan .entry)) (pos .byte)) (planAt stages (now (plan .entry)) (pos .byte + planSize (planAt stages (now (plan .entry)) (pos .byte))))) (part (now (work .entry)) (from .number) n) (from .number + n) (at .byte) (now (work .entry)) (now (work .exit)) (now (out .entry)) (now (out .exit)) r ⌝ }
+    ensures { λ r. ⌜ Written (runsAt stages (now (plan .entry)) (pos .byte)) (part (now (work .entry)) (from .number) n) (from .number + n) (at .byte) (now (work .entry)) (now (work .exit)) (now (out .entry)) (now (out .exit)) r ⌝ }
 {
     let first = from.number;
     let start = at.byte;

@@ -1,9 +1,12 @@
--- A reader as the part, the column and the place that it stands on, and what its calls make of it.
+-- A reader as the part, the column and the place that it stands on, what its calls make of it, and what opening and a call may answer.
 use Prim.Native.Nat.{ℕ, zero, suc, _+_}
+use mathlib.Core.Path.{_≡_}
 use mathlib.Core.List.{List}
 use denote.Ref.{now}
-use Rattle.meaning.specs.Answer.{Answer, given, refused, list}
+use Rattle.meaning.specs.Answer.{Answer, given, refused, list, number}
 use Rattle.meaning.specs.Operations.{lookSheet, openReader}
+use Rattle.meaning.specs.Says.{foundSays}
+use Rattle.meaning.specs.declared.Found.{Found}
 use Rattle.reader.specs.declared.Reader.{Reader}
 
 pub record Standing : Type 0 where
@@ -40,3 +43,15 @@ standing r = record { part = now (r .sheet); column = r .column; place = r .plac
 -- the same reader at the place after its call
 abbrev pub moved : Reader → Reader
 moved r = record { sheet = r .sheet; column = r .column; place = record { number = next (standing r) .place } }
+
+-- open: where the reader stands, and the refusal's number
+abbrev pub Opens : List ℕ → ℕ → Standing × ℕ → Type 0
+Opens sheet k a = (a .0 ≡ opened sheet k) × (a .1 ≡ number (openReader sheet k))
+
+-- step: the answer, and the reader that is left
+abbrev pub Steps : Reader → Found × Reader → Type 0
+Steps r a = (foundSays (a .0) ≡ answer (standing r)) × (a .1 ≡ moved r)
+
+-- a lookup's answer a at a place is told, and the place after it
+abbrev pub LooksOn : Answer ℕ → ℕ → Answer ℕ × ℕ → Type 0
+LooksOn a place told = (told .0 ≡ a) × (told .1 ≡ nextPlace a place)

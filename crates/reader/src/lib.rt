@@ -11,7 +11,7 @@ ghost use Rattle.meaning.specs.Answer.{list, number};
 ghost use Rattle.meaning.specs.Limits.{mostNumbers};
 ghost use Rattle.meaning.specs.Operations.{lookSheet, openReader, call};
 ghost use Rattle.meaning.specs.Says.{foundSays};
-ghost use Rattle.reader.specs.Steps.{nextPlace, opened, answer, standing, moved};
+ghost use Rattle.reader.specs.Steps.{standing, Opens, Steps, LooksOn};
 
 // The part of the sheet that it reads, the column, and the place of the next call.
 pub struct Reader<'a> {
@@ -52,7 +52,7 @@ fn part_of<'a>(sheet: &'a [u8], column: usize, refusal: &mut u8) -> &'a [u8]
 
 // Looks one number up, and tells the place after it; after a refusal that is the same place.
 fn look_on(sheet: &[u8], column: usize, place: Place) -> Looked
-    ensures { λ r. ⌜ (foundSays (r .answer) ≡ lookSheet (now (sheet .entry)) column (place .number)) × (r .next .number ≡ nextPlace (lookSheet (now (sheet .entry)) column (place .number)) (place .number)) ⌝ }
+    ensures { λ r. ⌜ LooksOn (lookSheet (now (sheet .entry)) column (place .number)) (place .number) (foundSays (r .answer), r .next .number) ⌝ }
 {
     let at = place.number;
     let found = lookup(sheet, column, place);
@@ -73,7 +73,7 @@ fn look_on(sheet: &[u8], column: usize, place: Place) -> Looked
 
 // Opens a reader: refused by 1 to 5, it stands on an empty part, and every call answers 1.
 pub fn open<'a>(sheet: &'a [u8], column: usize, refusal: &mut u8) -> Reader<'a>
-    ensures { λ r. ⌜ (standing r ≡ opened (now (sheet .entry)) column) × (now (refusal .exit) ≡ number (openReader (now (sheet .entry)) column)) ⌝ }
+    ensures { λ r. ⌜ Opens (now (sheet .entry)) column (standing r, now (refusal .exit)) ⌝ }
 {
     let part = part_of(sheet, column, refusal);
     Reader {
@@ -85,7 +85,7 @@ pub fn open<'a>(sheet: &'a [u8], column: usize, refusal: &mut u8) -> Reader<'a>
 
 // One call: it answers as a lookup at the reader's place, and moves on unless it is refused.
 pub fn step<'s, 'a>(r: &'s mut Reader<'a>) -> Found
-    ensures { λ x. ⌜ (foundSays x ≡ answer (standing (now (r .entry)))) × (now (r .exit) ≡ moved (now (r .entry))) ⌝ }
+    ensures { λ x. ⌜ Steps (now (r .entry)) (x, now (r .exit)) ⌝ }
 {
     let looked = look_on(r.sheet, r.column, r.place);
     r.place = looked.next;

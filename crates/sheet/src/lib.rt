@@ -23,9 +23,9 @@ use table::largest_count;
 use table::sound;
 ghost use mathlib.Core.Path.{_≡_};
 ghost use lib.ListN.{length};
-ghost use Rattle.meaning.specs.Answer.{amount, filled, inTurn};
-ghost use Rattle.meaning.specs.Operations.{check as checkOf, readSheet, lookSheet, countBoard};
-ghost use Rattle.meaning.specs.Says.{checkedSays, countedSays, readingSays, foundSays};
+ghost use Rattle.meaning.specs.Answer.{inTurn};
+ghost use Rattle.meaning.specs.Contracts.{Checks, Reads, Looks, Counts};
+ghost use Rattle.meaning.specs.Says.{checkedSays};
 ghost use Rattle.meaning.specs.Sheet.{columnsOf, checkColumn};
 ghost use Rattle.sheet.specs.Opened.{Ready};
 
@@ -52,7 +52,7 @@ fn check_columns(sheet: &[u8], work: &mut [u32]) -> Checked
 
 // Checks a sheet: 1; 2; each plan in turn; 8; each body in turn. A refusal names the column at fault.
 pub fn check(sheet: &[u8], work: &mut [u32]) -> Checked
-    ensures { λ r. ⌜ checkedSays r ≡ checkOf (now (sheet .entry)) (length (now (work .entry))) ⌝ }
+    ensures { λ r. ⌜ Checks (now (sheet .entry)) (now (work .entry)) r ⌝ }
 {
     let known = sound(sheet);
     if let Checked::Refused(e, column) = known {
@@ -67,7 +67,7 @@ pub fn check(sheet: &[u8], work: &mut [u32]) -> Checked
 
 // Reads a column: into work, and then, where all of it is right, into the output.
 pub fn read(sheet: &[u8], column: usize, work: &mut [u32], out: &mut [u32]) -> Reading
-    ensures { λ r. ⌜ (readingSays r ≡ amount (readSheet (now (sheet .entry)) column (length (now (work .entry))) (length (now (out .entry))))) × (now (out .exit) ≡ filled (readSheet (now (sheet .entry)) column (length (now (work .entry))) (length (now (out .entry)))) (now (out .entry))) ⌝ }
+    ensures { λ r. ⌜ Reads (now (sheet .entry)) column (now (work .entry)) (now (out .entry)) (r, now (out .exit)) ⌝ }
 {
     let found = column_at(sheet, column);
     match found {
@@ -95,7 +95,7 @@ pub fn read(sheet: &[u8], column: usize, work: &mut [u32], out: &mut [u32]) -> R
 
 // Looks one number up: only what the plan needs for that place is read.
 pub fn lookup(sheet: &[u8], column: usize, place: Place) -> Found
-    ensures { λ r. ⌜ foundSays r ≡ lookSheet (now (sheet .entry)) column (place .number) ⌝ }
+    ensures { λ r. ⌜ Looks (now (sheet .entry)) column (place .number) r ⌝ }
 {
     let found = column_at(sheet, column);
     match found {
@@ -124,7 +124,7 @@ pub fn lookup(sheet: &[u8], column: usize, place: Place) -> Found
 
 // Counts the board: the check, then the board's rules, 12. Column 0 holds job numbers, column 1 endings.
 pub fn board(sheet: &[u8], work: &mut [u32]) -> Counted
-    ensures { λ r. ⌜ countedSays r ≡ countBoard (now (sheet .entry)) (length (now (work .entry))) ⌝ }
+    ensures { λ r. ⌜ Counts (now (sheet .entry)) (now (work .entry)) r ⌝ }
 {
     let checked = check(sheet, work);
     if let Checked::Refused(e, column) = checked {

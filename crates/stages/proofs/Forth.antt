@@ -24,7 +24,7 @@ use Rattle.stages.proofs.Most.{less-length, gaps-length, worst-grows, p
 use Rattle.stages.proofs.Reference.{least-below, less-below, less-rises, raised-least}
 use Rattle.stages.proofs.Runs.{runs-many, runs-few, runs-rise, run-values-below, run-lengths-below, unrolled-runs}
 use Rattle.stages.proofs.Scans.{lessBy}
-use Rattle.fields.proofs.Words.{word-long, word-first, word-after}
+use Rattle.words.proofs.Words.{word-long, word-first, word-after}
 use Rattle.stages.proofs.Words.{Split, words-split}
 
 -- ---- stage by stage: what the inner plan reads back, the stage does

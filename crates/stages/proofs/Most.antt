@@ -19,7 +19,7 @@ use Rattle.stages.proofs.Differences.{gaps-below}
 use Rattle.stages.proofs.Reference.{less-below}
 use Rattle.stages.proofs.Runs.{runs-many, runs-few, run-values-below, run-lengths-below}
 use Rattle.stages.proofs.Scans.{lessBy, less-scan, gaps-scan, scan-length}
-use Rattle.fields.proofs.Words.{word-small, word-long}
+use Rattle.words.proofs.Words.{word-small, word-long}
 
 -- ---- sizes of lists that the stages make
 pub less-length : (m : ℕ) (xs : List ℕ) → length (lessBy m xs) ≡ length xs

@@ -8,7 +8,7 @@ use lib.Seq.{take-at, drop-at, drop-drop}
 use Rattle.meaning.specs.Bytes.{word, wordAt}
 use Rattle.meaning.specs.Limits.{numberLimit}
 use Rattle.meaning.specs.Places.{Below}
-use Rattle.fields.proofs.Words.{word-long, word-first, word-after, word-next, word-at, word-whole}
+use Rattle.words.proofs.Words.{word-long, word-first, word-after, word-next, word-at, word-whole}
 
 pub record Split (k : ℕ) (first second body : List ℕ) : Type 0 where
   pub count : wordAt body 0 ≡ k

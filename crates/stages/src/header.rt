@@ -1,8 +1,8 @@
 // A run stage's header.
-use fields::word_at;
 use leaves::whole;
 use meaning::FAULT;
 use meaning::Offset;
+use words::word_at;
 ghost use mathlib.Core.Path.{_≡_};
 ghost use Rattle.stages.specs.Header.{headerIn, headerSays};
 

@@ -12,7 +12,7 @@ use Rattle.meaning.specs.Limits.{planBytes}
 use Rattle.meaning.specs.Lists.{sum}
 use Rattle.meaning.specs.Sheet.{entrySize, planIn, countIn, sizeIn, entryIn, Column, columnsIn, editionOf, columnCount, tableSize, columnsOf, columnAt, bodyBegins}
 use Rattle.meaning.proofs.Tests.{by-order}
-use Rattle.fields.proofs.Words.{word-drop}
+use Rattle.words.proofs.Words.{word-drop}
 use Rattle.table.specs.Offsets.{entryOffset, planOffset, sizeAt, sizesBefore, bodyOffset, blankColumn, columnBy}
 use Rattle.table.proofs.Lists.{sum-next}
 

@@ -9,7 +9,7 @@ use Rattle.meaning.specs.Bytes.{word, wordAt}
 use Rattle.meaning.specs.Limits.{numberLimit, planBytes}
 use Rattle.meaning.specs.Places.{Below}
 use Rattle.meaning.specs.Sheet.{Entry, entrySize, planIn, countIn, sizeIn, entryBytes, entryIn}
-use Rattle.fields.proofs.Words.{word-length, word-first, word-next, word-at, word-drop}
+use Rattle.words.proofs.Words.{word-length, word-first, word-next, word-at, word-drop}
 
 -- an entry that can be laid down: its plan has 15 bytes, its count and its body's length are numbers
 pub record Sized (e : Entry) : Type 0 where

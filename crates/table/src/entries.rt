@@ -1,11 +1,11 @@
 // The table's entries: where they stand, what they say, and where bodies begin.
-use fields::word_at;
 use leaves::wide;
 use meaning::ENTRY_SIZE;
 use meaning::HEAD_SIZE;
 use meaning::MOST_NUMBERS;
 use meaning::Offset;
 use meaning::RISING;
+use words::word_at;
 ghost use mathlib.Core.Path.{_≡_};
 ghost use Prim.Native.Nat.{_<_, _≤_, _^_};
 ghost use lib.ListN.{length};

@@ -14,8 +14,8 @@ use meaning::NO_COLUMN;
 use meaning::NO_SHEET;
 use meaning::Offset;
 ghost use mathlib.Core.Path.{_≡_};
-ghost use Rattle.meaning.specs.Answer.{passed, list, number};
-ghost use Rattle.meaning.specs.Operations.{fetch as fetchOf};
+ghost use Rattle.meaning.specs.Answer.{passed};
+ghost use Rattle.meaning.specs.Contracts.{Fetches};
 ghost use Rattle.meaning.specs.Says.{checkedSays};
 ghost use Rattle.meaning.specs.Sheet.{sound as soundOf, largestCount};
 ghost use Rattle.table.specs.Entries.{Here, EntryIs, ColumnIs};
@@ -107,7 +107,7 @@ pub fn column_at(sheet: &[u8], column: usize) -> Column
 
 // A column's body itself, a part of the lent sheet, empty on refusal. The refusal's number is told, 0 where the column is there.
 pub fn fetch<'a>(sheet: &'a [u8], column: usize, refusal: &mut u8) -> &'a [u8]
-    ensures { λ r. ⌜ (now r ≡ list (fetchOf (now (sheet .entry)) column)) × (now (refusal .exit) ≡ number (fetchOf (now (sheet .entry)) column)) ⌝ }
+    ensures { λ r. ⌜ Fetches (now (sheet .entry)) column (now r, now (refusal .exit)) ⌝ }
 {
     let found = column_at(sheet, column);
     match found {

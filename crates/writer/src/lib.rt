@@ -12,11 +12,7 @@ use meaning::MOST_BYTES;
 use meaning::NO_ROOM;
 use meaning::SHORT_WORK;
 use meaning::Sized;
-ghost use mathlib.Core.Path.{_≡_};
-ghost use lib.ListN.{length};
-ghost use Rattle.meaning.specs.Answer.{amount, filled};
-ghost use Rattle.meaning.specs.Operations.{writeApart};
-ghost use Rattle.meaning.specs.Says.{sizedSays};
+ghost use Rattle.meaning.specs.Contracts.{WritesApart};
 
 mod plans;
 mod sheets;
@@ -31,7 +27,7 @@ pub fn write(
     work: &mut [u32],
     out: &mut [u8],
 ) -> Sized
-    ensures { λ r. ⌜ (sizedSays r ≡ amount (writeApart (now (kinds .entry)) (now (plans .entry)) (now (counts .entry)) (now (joined .entry)) (length (now (work .entry))) (length (now (out .entry))))) × (now (out .exit) ≡ filled (writeApart (now (kinds .entry)) (now (plans .entry)) (now (counts .entry)) (now (joined .entry)) (length (now (work .entry))) (length (now (out .entry)))) (now (out .entry))) ⌝ }
+    ensures { λ r. ⌜ WritesApart (now (kinds .entry)) (now (plans .entry)) (now (counts .entry)) (now (joined .entry)) (now (work .entry)) (now (out .entry)) (r, now (out .exit)) ⌝ }
 {
     let held = orders_hold(kinds, plans, counts, joined);
     if !held {

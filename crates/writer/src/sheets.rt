@@ -1,7 +1,6 @@
 // A sheet laid down: its head, and for each column its body and its entry.
 use crate::plans::put_bytes;
 use crate::plans::used_plan;
-use fields::put_word;
 use leaves::byte_of;
 use leaves::put;
 use leaves::whole;
@@ -17,6 +16,7 @@ use table::entries::COUNT_IN;
 use table::entries::PLAN_IN;
 use table::entries::SIZE_IN;
 use table::entries::entry_start;
+use words::put_word;
 ghost use mathlib.Core.Path.{_≡_};
 ghost use Prim.Native.Nat.{ℕ, _+_, _*_, _<_, _≤_, _^_};
 ghost use lib.ListN.{length, getD, take};

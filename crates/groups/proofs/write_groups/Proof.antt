@@ -31,8 +31,8 @@ add-data c =
     let start : At tie.Start = search in
     omega (arith, groups-room (start .args .list .now) (turn .before .loop .inv) (start .pre .inside) (turn .loop-test .taken), start .pre .short)
 
-put-fields-requires : tie.Need-put-fields-requires Inv-loop μ-loop
-put-fields-requires c κs =
+put-data-requires : tie.Need-put-data-requires Inv-loop μ-loop
+put-data-requires c κs =
     let count : At tie.After-lesser = search in
     let turn : At tie.In-loop = search in
     let start : At tie.Start = search in
@@ -44,7 +44,7 @@ put-fields-requires c κs =
 
 loop-again : tie.Need-loop-again Inv-loop μ-loop
 loop-again c =
-    let fields : At tie.After-put-fields = search in
+    let dataBytes : At tie.After-put-data = search in
     let head : At tie.After-put = search in
     let control : At tie.After-control-of = search in
     let count : At tie.After-lesser = search in
@@ -57,7 +57,7 @@ loop-again c =
     let next =
     groups-turn (a .list .now) (a .from .number + l .i) (a .n - l .i) (omega arith) (omega (arith, start .pre .inside)) (count .lesser .result) most in
     put-turn (l .inv) (count .lesser .result) (omega arith) next
-    (put-after (put-one (head .put .ensures) (control .control-of .ensures)) (fields .put-fields .ensures))
+    (put-after (put-one (head .put .ensures) (control .control-of .ensures)) (dataBytes .put-data .ensures))
 
 same-length : tie.Need-same-length Inv-loop μ-loop
 same-length c = put-long (c .before .loop .inv)
@@ -80,7 +80,7 @@ write-groups-spec =
     (λ c κs. search needs)  -- control-of-requires
     (λ c κs. search needs)  -- put-requires
     add-data
-    put-fields-requires
+    put-data-requires
     (λ c. search needs)  -- add-i
     (λ c. search needs)  -- loop-less
     loop-again

@@ -6,8 +6,8 @@ use borrow.Author.Needs.{needs}
 use Rattle.groups.proofs.write_stream.Statement.{statement}
 use Rattle.groups.proofs.write_stream.Tie as tie
 
-put-fields-requires : tie.Need-put-fields-requires
-put-fields-requires c κs =
+put-data-requires : tie.Need-put-data-requires
+put-data-requires c κs =
     let controls : tie.After-put-controls = search in
     let start : tie.Start = search in
     let a = start .args in
@@ -17,15 +17,15 @@ put-fields-requires c κs =
 returns : tie.Need-returns
 unfolding writeStream
 returns c =
-    let fields : tie.After-put-fields = search in
+    let dataBytes : tie.After-put-data = search in
     let controls : tie.After-put-controls = search in
-    put-after (controls .put-controls .ensures) (fields .put-fields .ensures)
+    put-after (controls .put-controls .ensures) (dataBytes .put-data .ensures)
 
 pub write-stream-spec : {M : Type 1} → statement M
 write-stream-spec =
     tie.close
     (tie.spec
     (λ c κs. search needs)  -- put-controls-requires
-    put-fields-requires
+    put-data-requires
     (λ c. search needs)  -- same-length
     returns)

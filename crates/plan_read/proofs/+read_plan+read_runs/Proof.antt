@@ -21,7 +21,7 @@ use Rattle.plan_read.proofs.read_runs.Reads as read-runs
 use Rattle.plan_read.proofs.read_runs.Kinds as read-runs-kinds
 use Rattle.plan_read.proofs.+read_plan+read_runs.Lts-read_runs as runs
 use Rattle.codes.proofs.read_code.Reads as read-code-reads
-use Rattle.fields.proofs.word_at.Reads as word-at-reads
+use Rattle.words.proofs.word_at.Reads as word-at-reads
 use Rattle.judge.proofs.stage.plan_end.Reads as plan-end-reads
 use Rattle.judge.proofs.stage.stage_at.Reads as stage-at-reads
 use Rattle.stages.proofs.header_of.Reads as header-of-reads

@@ -15,7 +15,7 @@ use Rattle.plan_write.proofs.+write_plan+write_runs.Lts-write_plan as p
 use Rattle.plan_write.proofs.write_runs.Reads as write-runs
 use Rattle.plan_write.proofs.write_runs.Kinds as write-runs-kinds
 use Rattle.plan_write.proofs.+write_plan+write_runs.Lts-write_runs as runs
-use Rattle.fields.proofs.put_word.Reads as put-word-reads
+use Rattle.words.proofs.put_word.Reads as put-word-reads
 use Rattle.judge.proofs.stage.plan_end.Reads as plan-end-reads
 use Rattle.judge.proofs.stage.stage_at.Reads as stage-at-reads
 use Rattle.codes.proofs.dispatch.write_code.Reads as write-code-reads

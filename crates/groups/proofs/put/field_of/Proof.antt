@@ -1,6 +1,6 @@
 -- A length lies from 1 to 4. Assumes nothing.
 use native.Mathlib.Omega.{arith}
-use Rattle.fields.proofs.Fields.{held}
+use Rattle.words.proofs.DataBytes.{held}
 use borrow.Author.Needs.{needs}
 use Rattle.groups.proofs.put.field_of.Statement.{statement}
 use Rattle.groups.proofs.put.field_of.Tie as tie

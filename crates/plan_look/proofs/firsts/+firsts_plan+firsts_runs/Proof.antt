@@ -19,7 +19,7 @@ use Rattle.plan_look.proofs.firsts.firsts_runs.Reads as firsts-runs
 use Rattle.plan_look.proofs.firsts.firsts_runs.Kinds as firsts-runs-kinds
 use Rattle.plan_look.proofs.firsts.+firsts_plan+firsts_runs.Lts-firsts_runs as runs
 use Rattle.codes.proofs.firsts_code.Reads as firsts-code-reads
-use Rattle.fields.proofs.word_at.Reads as word-at-reads
+use Rattle.words.proofs.word_at.Reads as word-at-reads
 use Rattle.judge.proofs.stage.plan_end.Reads as plan-end-reads
 use Rattle.judge.proofs.stage.stage_at.Reads as stage-at-reads
 use Rattle.leaves.proofs.lesser.Reads as lesser-reads

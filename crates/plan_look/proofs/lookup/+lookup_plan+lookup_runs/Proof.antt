@@ -21,7 +21,7 @@ use Rattle.plan_look.proofs.lookup.lookup_runs.Reads as lookup-runs
 use Rattle.plan_look.proofs.lookup.lookup_runs.Kinds as lookup-runs-kinds
 use Rattle.plan_look.proofs.lookup.+lookup_plan+lookup_runs.Lts-lookup_runs as runs
 use Rattle.codes.proofs.lookup_code.Reads as lookup-code-reads
-use Rattle.fields.proofs.word_at.Reads as word-at-reads
+use Rattle.words.proofs.word_at.Reads as word-at-reads
 use Rattle.judge.proofs.stage.plan_end.Reads as plan-end-reads
 use Rattle.judge.proofs.stage.stage_at.Reads as stage-at-reads
 use Rattle.leaves.proofs.long.Reads as long-reads

@@ -17,12 +17,12 @@ unfoldable pub fewest : ℕ → List ℕ
 fewest x = bytesOf (byteLength x) x
 
 -- the data bytes of a list
-unfoldable pub fields : List ℕ → List ℕ
-fields xs = joined fewest xs
+unfoldable pub dataBytes : List ℕ → List ℕ
+dataBytes xs = joined fewest xs
 
--- the numbers in fields of these lengths, refused where fewer bytes would hold one
-unfoldable pub fieldsIn : List ℕ → List ℕ → Answer (List ℕ)
-fieldsIn [] bytes = given []
-fieldsIn (l ∷ ls) bytes =
+-- the numbers in data bytes, each in so many, refused where fewer bytes would hold one
+unfoldable pub dataIn : List ℕ → List ℕ → Answer (List ℕ)
+dataIn [] bytes = given []
+dataIn (l ∷ ls) bytes =
     need (eqb (byteLength (numberOf (take l bytes))) l) fault
-    (bind (fieldsIn ls (drop l bytes)) (λ xs. given (numberOf (take l bytes) ∷ xs)))
+    (bind (dataIn ls (drop l bytes)) (λ xs. given (numberOf (take l bytes) ∷ xs)))

@@ -7,7 +7,7 @@ ghost use Prim.Native.Nat.{_<_, _+_, _≤_, _^_};
 ghost use lib.ListN.{length, take, drop};
 ghost use lib.Seq.{sets};
 ghost use Rattle.meaning.specs.Bytes.{numberOf, word, wordAt};
-ghost use Rattle.meaning.specs.Fields.{byteLength, fewest};
+ghost use Rattle.meaning.specs.DataBytes.{byteLength, fewest};
 
 // How many bytes hold x: zero takes one.
 pub fn byte_length(x: u32) -> usize

@@ -2,12 +2,12 @@ use mathlib.Core.Path.{ap, _∙_}
 use mathlib.Core.List.{List}
 use Prim.Native.Nat.{ℕ, _+_, _/_, _%_}
 use lib.ListN.{set}
-use Rattle.fields.proofs.Straight.{word-put}
+use Rattle.words.proofs.Straight.{word-put}
 use borrow.Author.Needs.{needs}
-use Rattle.fields.proofs.put_word.Statement.{statement}
-use Rattle.fields.proofs.put_word.Tie as tie
-use Rattle.fields.proofs.put_word.Reads as reads
-use Rattle.fields.proofs.put_word.Lts as lts
+use Rattle.words.proofs.put_word.Statement.{statement}
+use Rattle.words.proofs.put_word.Tie as tie
+use Rattle.words.proofs.put_word.Reads as reads
+use Rattle.words.proofs.put_word.Lts as lts
 use Rattle.leaves.proofs.put.Reads as put-reads
 
 returns : tie.Need-returns

@@ -1,4 +1,4 @@
--- Numbers in the fewest bytes, for codes 2, 3 and 4: a list's fields read back as the list, and what reads as a list are its fields. Assumes nothing.
+-- Numbers in the fewest bytes, for codes 2, 3 and 4: a list's data bytes read back as the list, and what reads as a list are its data bytes. Assumes nothing.
 use Prim.Native.Nat.{ℕ, zero, suc, _+_, _-_, _*_, _/_, _^_, _≤_, _<_}
 use mathlib.Core.Path.{_≡_, refl, sym, ap, ap₂, _∙_, subst}
 use mathlib.Core.List.{List, [], _∷_, _++_, append-assoc, map}
@@ -14,12 +14,12 @@ use Rattle.meaning.specs.Answer.{given}
 use Rattle.meaning.specs.Limits.{fault, numberLimit}
 use Rattle.meaning.specs.Lists.{sum, joined}
 use Rattle.meaning.specs.Bytes.{bytesOf, numberOf}
-use Rattle.meaning.specs.Fields.{byteLength, fewest, fields, fieldsIn}
+use Rattle.meaning.specs.DataBytes.{byteLength, fewest, dataBytes, dataIn}
 use Rattle.meaning.specs.Places.{Below}
 use Rattle.meaning.proofs.Answers.{Faulty, bind-given, need-given, bind-faulty, need-faulty}
 use Rattle.meaning.proofs.Bounds.{below-nil, below-cons, below-append, below-take, below-drop}
 use Rattle.meaning.proofs.Tests.{by-order}
-use Rattle.fields.proofs.Bytes.{bytes-length, bytes-small, number-bytes, number-small, bytes-number}
+use Rattle.words.proofs.Bytes.{bytes-length, bytes-small, number-bytes, number-small, bytes-number}
 use Rattle.leaves.proofs.Joined.{joined-append}
 
 -- ---- how many bytes hold a number
@@ -53,51 +53,51 @@ pub few-number : (x : ℕ) → x < numberLimit → numberOf (fewest x) ≡ x
 unfolding fewest
 few-number x h = number-bytes (byteLength x) x (held x .above h)
 
--- ---- a list's fields
-pub fields-cons : (x : ℕ) (xs : List ℕ) → fields (x ∷ xs) ≡ fewest x ++ fields xs
-unfolding fields joined
-fields-cons x xs = refl
+-- ---- a list's data bytes
+pub data-cons : (x : ℕ) (xs : List ℕ) → dataBytes (x ∷ xs) ≡ fewest x ++ dataBytes xs
+unfolding dataBytes joined
+data-cons x xs = refl
 
-pub fields-append : (xs ys : List ℕ) → fields (xs ++ ys) ≡ fields xs ++ fields ys
-unfolding fields
-fields-append xs ys = joined-append fewest xs ys
+pub data-append : (xs ys : List ℕ) → dataBytes (xs ++ ys) ≡ dataBytes xs ++ dataBytes ys
+unfolding dataBytes
+data-append xs ys = joined-append fewest xs ys
 
-pub fields-length : (xs : List ℕ) → length (fields xs) ≡ sum (map byteLength xs)
-unfolding fields joined sum
-fields-length [] = refl
-fields-length (x ∷ xs) = length-append (fewest x) (joined fewest xs) ∙ ap₂ _+_ (few-length x) (fields-length xs)
+pub data-length : (xs : List ℕ) → length (dataBytes xs) ≡ sum (map byteLength xs)
+unfolding dataBytes joined sum
+data-length [] = refl
+data-length (x ∷ xs) = length-append (fewest x) (joined fewest xs) ∙ ap₂ _+_ (few-length x) (data-length xs)
 
-pub fields-most : (xs : List ℕ) → length (fields xs) ≤ 4 * length xs
-unfolding fields joined
-fields-most [] = omega arith
-fields-most (x ∷ xs) = simp length-append (omega (arith, few-length x, held x .most, fields-most xs))
+pub data-most : (xs : List ℕ) → length (dataBytes xs) ≤ 4 * length xs
+unfolding dataBytes joined
+data-most [] = omega arith
+data-most (x ∷ xs) = simp length-append (omega (arith, few-length x, held x .most, data-most xs))
 
-pub fields-small : (xs : List ℕ) → Below 256 (fields xs)
-unfolding fields joined
-fields-small [] = below-nil 256 (omega arith)
-fields-small (x ∷ xs) = below-append 256 (fewest x) (joined fewest xs) (few-small x) (fields-small xs)
+pub data-small : (xs : List ℕ) → Below 256 (dataBytes xs)
+unfolding dataBytes joined
+data-small [] = below-nil 256 (omega arith)
+data-small (x ∷ xs) = below-append 256 (fewest x) (joined fewest xs) (few-small x) (data-small xs)
 
 -- ---- written and read
-pub fields-written : (xs rest : List ℕ) → Below numberLimit xs → fieldsIn (map byteLength xs) (fields xs ++ rest) ≡ given xs
-unfolding fieldsIn fields joined
-fields-written [] rest h = refl
-fields-written (x ∷ xs) rest h =
+pub data-written : (xs rest : List ℕ) → Below numberLimit xs → dataIn (map byteLength xs) (dataBytes xs ++ rest) ≡ given xs
+unfolding dataIn dataBytes joined
+data-written [] rest h = refl
+data-written (x ∷ xs) rest h =
     let t : take (byteLength x) ((fewest x ++ joined fewest xs) ++ rest) ≡ fewest x =
     rw (append-assoc (fewest x) (joined fewest xs) rest) (take-at (fewest x) (joined fewest xs ++ rest) (byteLength x) (few-length x)) in
     let d : drop (byteLength x) ((fewest x ++ joined fewest xs) ++ rest) ≡ joined fewest xs ++ rest =
     rw (append-assoc (fewest x) (joined fewest xs) rest) (drop-at (fewest x) (joined fewest xs ++ rest) (byteLength x) (few-length x)) in
-    rw (t, d, few-number x (h 0), eq-eqb (byteLength x) (byteLength x) refl, fields-written xs rest (λ i. h (suc i)))
+    rw (t, d, few-number x (h 0), eq-eqb (byteLength x) (byteLength x) refl, data-written xs rest (λ i. h (suc i)))
 
--- what a list says that was read from fields of lengths ls
+-- what a list says that was read from data of lengths ls
 pub record FieldsAre (ls bytes xs : List ℕ) : Type 0 where
   pub lengths : map byteLength xs ≡ ls
-  pub is : take (sum ls) bytes ≡ fields xs
+  pub is : take (sum ls) bytes ≡ dataBytes xs
   pub small : Below numberLimit xs
 
 -- a first field more
 field-more : (l : ℕ) (ls bytes xs : List ℕ) → Below 256 bytes → l ≤ length bytes → byteLength (numberOf (take l bytes)) ≡ l → FieldsAre ls (drop l bytes) xs
     → FieldsAre (l ∷ ls) bytes (numberOf (take l bytes) ∷ xs)
-unfolding fields joined sum fewest
+unfolding dataBytes joined sum fewest
 field-more l ls bytes xs h fits e f =
     let x = numberOf (take l bytes) in
     let n : length (take l bytes) ≡ l = length-take-le l bytes fits in
@@ -118,26 +118,26 @@ field-more l ls bytes xs h fits e f =
     four (suc (suc (suc (suc zero)))) x m g = g
     four (suc (suc (suc (suc (suc k))))) x m g = absurd (omega arith)
 
-pub fields-back : (ls bytes xs : List ℕ) → Below 256 bytes → sum ls ≤ length bytes → fieldsIn ls bytes ≡ given xs → FieldsAre ls bytes xs
-unfolding fieldsIn sum fields joined
-fields-back [] bytes xs h fits e =
+pub data-back : (ls bytes xs : List ℕ) → Below 256 bytes → sum ls ≤ length bytes → dataIn ls bytes ≡ given xs → FieldsAre ls bytes xs
+unfolding dataIn sum dataBytes joined
+data-back [] bytes xs h fits e =
     let is : [] ≡ xs = cc in
     subst (FieldsAre [] bytes) is (record { lengths = refl; is = refl; small = below-nil numberLimit (omega arith) })
-fields-back (l ∷ ls) bytes xs h fits e =
+data-back (l ∷ ls) bytes xs h fits e =
     let (t, e₁) = need-given (eqb (byteLength (numberOf (take l bytes))) l) fault _ xs e in
-    let (ys, ey, e₂) = bind-given (fieldsIn ls (drop l bytes)) _ xs e₁ in
+    let (ys, ey, e₂) = bind-given (dataIn ls (drop l bytes)) _ xs e₁ in
     let is : numberOf (take l bytes) ∷ ys ≡ xs = cc in
     subst (FieldsAre (l ∷ ls) bytes) is
     (field-more l ls bytes ys h (omega arith) (eqb-true _ l t)
-    (fields-back ls (drop l bytes) ys (below-drop 256 l bytes h) (omega (arith, length-drop l bytes)) ey))
+    (data-back ls (drop l bytes) ys (below-drop 256 l bytes h) (omega (arith, length-drop l bytes)) ey))
 
--- whatever fields are refused by is a fault
-pub fields-faulty : (ls bytes : List ℕ) → Faulty (fieldsIn ls bytes)
-unfolding fieldsIn
-fields-faulty [] bytes = tt
-fields-faulty (l ∷ ls) bytes =
+-- whatever data is refused by is a fault
+pub data-faulty : (ls bytes : List ℕ) → Faulty (dataIn ls bytes)
+unfolding dataIn
+data-faulty [] bytes = tt
+data-faulty (l ∷ ls) bytes =
     need-faulty (eqb (byteLength (numberOf (take l bytes))) l) _
-    (bind-faulty (fieldsIn ls (drop l bytes)) _ (fields-faulty ls (drop l bytes)) (λ xs. tt))
+    (bind-faulty (dataIn ls (drop l bytes)) _ (data-faulty ls (drop l bytes)) (λ xs. tt))
 
 -- ---- by the count of leading zeros: x has m binary digits
 module _ (x : ℕ) (h : x < 2 ^ 32) where

@@ -1,11 +1,11 @@
 use native.Mathlib.Omega.{arith}
 use mathlib.Core.Path.{_≡_, sym, _∙_}
-use Rattle.fields.proofs.Straight.{number-1, number-2, number-3, number-4}
+use Rattle.words.proofs.Straight.{number-1, number-2, number-3, number-4}
 use borrow.Author.Needs.{needs}
-use Rattle.fields.proofs.number_at.Statement.{statement}
-use Rattle.fields.proofs.number_at.Tie as tie
-use Rattle.fields.proofs.number_at.Reads as reads
-use Rattle.fields.proofs.number_at.Lts as lts
+use Rattle.words.proofs.number_at.Statement.{statement}
+use Rattle.words.proofs.number_at.Tie as tie
+use Rattle.words.proofs.number_at.Reads as reads
+use Rattle.words.proofs.number_at.Lts as lts
 use Rattle.leaves.proofs.wide.Reads as wide-reads
 
 returns : tie.Need-returns

@@ -1,11 +1,11 @@
 use native.Mathlib.Omega.{arith}
 use lib.Count.{leading-le}
-use Rattle.fields.proofs.Fields.{length-of-zero, length-of-some}
+use Rattle.words.proofs.DataBytes.{length-of-zero, length-of-some}
 use borrow.Author.Needs.{needs}
-use Rattle.fields.proofs.byte_length.Statement.{statement}
-use Rattle.fields.proofs.byte_length.Tie as tie
-use Rattle.fields.proofs.byte_length.Reads as reads
-use Rattle.fields.proofs.byte_length.Lts as lts
+use Rattle.words.proofs.byte_length.Statement.{statement}
+use Rattle.words.proofs.byte_length.Tie as tie
+use Rattle.words.proofs.byte_length.Reads as reads
+use Rattle.words.proofs.byte_length.Lts as lts
 
 -- src/lib.rt:17:9
 returns : tie.Need-returns

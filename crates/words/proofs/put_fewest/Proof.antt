@@ -3,12 +3,12 @@ use mathlib.Core.Path.{ap, _∙_}
 use mathlib.Core.List.{List}
 use Prim.Native.Nat.{ℕ, _+_, _/_, _%_}
 use lib.ListN.{set}
-use Rattle.fields.proofs.Straight.{fewest-1, fewest-2, fewest-3, fewest-4}
+use Rattle.words.proofs.Straight.{fewest-1, fewest-2, fewest-3, fewest-4}
 use borrow.Author.Needs.{needs}
-use Rattle.fields.proofs.put_fewest.Statement.{statement}
-use Rattle.fields.proofs.put_fewest.Tie as tie
-use Rattle.fields.proofs.put_fewest.Reads as reads
-use Rattle.fields.proofs.put_fewest.Lts as lts
+use Rattle.words.proofs.put_fewest.Statement.{statement}
+use Rattle.words.proofs.put_fewest.Tie as tie
+use Rattle.words.proofs.put_fewest.Reads as reads
+use Rattle.words.proofs.put_fewest.Lts as lts
 use Rattle.leaves.proofs.put.Reads as put-reads
 
 returns : tie.Need-returns

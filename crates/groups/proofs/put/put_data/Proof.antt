@@ -2,15 +2,15 @@
 use Prim.Native.Nat.{_+_, _-_}
 use native.Mathlib.Omega.{arith}
 use lib.ListN.{getD}
-use Rattle.groups.specs.Parts.{fieldsOf}
-use Rattle.groups.proofs.Puts.{PutSo, put-start, put-turn, put-end, put-long, put-few, fields-none, fields-turn, fields-bound}
+use Rattle.groups.specs.Parts.{dataOf}
+use Rattle.groups.proofs.Puts.{PutSo, put-start, put-turn, put-end, put-long, put-few, data-none, data-turn, data-bound}
 use borrow.Author.Needs.{needs}
-use Rattle.groups.proofs.put.put_fields.Statement.{statement}
-use Rattle.groups.proofs.put.put_fields.Tie as tie
+use Rattle.groups.proofs.put.put_data.Statement.{statement}
+use Rattle.groups.proofs.put.put_data.Tie as tie
 
 abbrev Inv-loop : tie.InvT-loop
 Inv-loop list n out₀ first to₀ i₀ out to i =
-    PutSo (fieldsOf list) first n (to₀ .byte) out₀ out (to .byte) i
+    PutSo (dataOf list) first n (to₀ .byte) out₀ out (to .byte) i
 
 abbrev μ-loop : tie.MeasureT-loop
 μ-loop list n out₀ first to₀ i₀ out to i =
@@ -24,14 +24,14 @@ loop-holds : tie.Need-loop-holds Inv-loop μ-loop
 loop-holds c =
     let start : At tie.Start = search in
     let a = start .args in
-    put-start (fieldsOf (a .list .now)) (a .from .number) (a .n) (a .at .byte) (a .out .now)
+    put-start (dataOf (a .list .now)) (a .from .number) (a .n) (a .at .byte) (a .out .now)
 
 put-fewest-requires : tie.Need-put-fewest-requires Inv-loop μ-loop
 put-fewest-requires c κs =
     let turn : At tie.In-loop = search in
     let start : At tie.Start = search in
     let a = start .args in
-    omega (arith, turn .before .loop .inv, fields-bound (a .list .now) (a .from .number) (a .n) (start .pre .0))
+    omega (arith, turn .before .loop .inv, data-bound (a .list .now) (a .from .number) (a .n) (start .pre .0))
 
 loop-again : tie.Need-loop-again Inv-loop μ-loop
 loop-again c =
@@ -41,7 +41,7 @@ loop-again c =
     let l = turn .before .loop in
     let a = start .args in
     let more = turn .loop-test .taken in
-    let next = fields-turn (a .list .now) (a .from .number + l .i) (a .n - l .i) (omega arith) (omega (arith, start .pre .0)) in
+    let next = data-turn (a .list .now) (a .from .number + l .i) (a .n - l .i) (omega arith) (omega (arith, start .pre .0)) in
     put-turn (l .inv) 1 (omega arith) next (put-few (getD (a .list .now) (a .from .number + l .i) 0) (put .put-fewest .ensures))
 
 same-length : tie.Need-same-length Inv-loop μ-loop
@@ -50,10 +50,10 @@ same-length c = put-long (c .before .loop .inv)
 returns : tie.Need-returns Inv-loop μ-loop
 returns c =
     let start : At tie.Start = search in
-    put-end (c .before .loop .inv) (c .loop-test .left) (fields-none (start .args .list .now))
+    put-end (c .before .loop .inv) (c .loop-test .left) (data-none (start .args .list .now))
 
-pub put-fields-spec : {M : Type 1} → statement M
-put-fields-spec =
+pub put-data-spec : {M : Type 1} → statement M
+put-data-spec =
     tie.close
     (tie.spec
     Inv-loop

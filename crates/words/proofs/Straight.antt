@@ -9,7 +9,7 @@ use lib.ListN.{length, getD, take, drop, set}
 use lib.Seq.{sets, drop-cons}
 use borrow.Author.Tests.{lt-ltb, le-ltb}
 use Rattle.meaning.specs.Bytes.{bytesOf, numberOf, word}
-use Rattle.meaning.specs.Fields.{byteLength, fewest}
+use Rattle.meaning.specs.DataBytes.{byteLength, fewest}
 
 -- ---- read
 module _ (s : List ℕ) where

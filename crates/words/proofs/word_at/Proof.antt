@@ -1,10 +1,10 @@
 use Rattle.meaning.specs.Bytes.{wordAt}
 use borrow.Author.Needs.{needs}
-use Rattle.fields.proofs.word_at.Statement.{statement}
-use Rattle.fields.proofs.word_at.Tie as tie
-use Rattle.fields.proofs.word_at.Reads as reads
-use Rattle.fields.proofs.word_at.Lts as lts
-use Rattle.fields.proofs.number_at.Reads as number-at-reads
+use Rattle.words.proofs.word_at.Statement.{statement}
+use Rattle.words.proofs.word_at.Tie as tie
+use Rattle.words.proofs.word_at.Reads as reads
+use Rattle.words.proofs.word_at.Lts as lts
+use Rattle.words.proofs.number_at.Reads as number-at-reads
 
 -- src/lib.rt:47:5
 number-at-requires : tie.Need-number-at-requires

@@ -9,7 +9,7 @@ use Rattle.meaning.specs.Bytes.{bytesOf, numberOf, word, wordAt}
 use Rattle.meaning.specs.Limits.{numberLimit}
 use Rattle.meaning.specs.Places.{Below}
 use Rattle.meaning.proofs.Bounds.{below-take, below-drop}
-use Rattle.fields.proofs.Bytes.{bytes-length, bytes-small, number-bytes, bytes-number}
+use Rattle.words.proofs.Bytes.{bytes-length, bytes-small, number-bytes, bytes-number}
 
 module _ (x : ℕ) where
   pub word-length : length (word x) ≡ 4
