@@ -1,4 +1,4 @@
-"""Proofs are read too: in the crates' proofs, lines of more than 160 characters and paths of more than 6 `.before`.
+"""Proofs are read too: in the crates' proofs, definitions and sources, lines of more than 160 characters and paths of more than 6 `.before`.
 Fails where there are more than tests/style.counts says; that may only fall.
 
     python3 tests/style.py [--lower]        --lower writes fewer down"""
@@ -14,16 +14,15 @@ WIDTH, STEPS = 160, 6
 PATH = re.compile(r"(?: \.before){%d,}" % (STEPS + 1))
 
 
-def proofs():
+def files_read():
     for folder, _, names in sorted(os.walk(CRATES)):
-        if "proofs" in folder.split(os.sep):
-            yield from (os.path.join(folder, name) for name in sorted(names) if name.endswith(".antt"))
+        yield from (os.path.join(folder, name) for name in sorted(names) if name.endswith((".antt", ".rt")))
 
 
 def counted():
     """{what: {file: how many}}"""
     found = {"lines": {}, "paths": {}}
-    for path in proofs():
+    for path in files_read():
         with open(path, encoding="utf-8") as file:
             text = file.read()
         name = os.path.relpath(path, CRATES)

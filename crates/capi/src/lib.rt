@@ -1,4 +1,5 @@
-// The C interface, as include/pelluvion.h declares it. Each function calls the proved operation, answers with the refusal's number, 0 where it was accepted, and tells the rest through its last pointers.
+// The C interface, as include/pelluvion.h declares it. Each function calls the proved operation, answers with the refusal's number, 0 where
+// it was accepted, and tells the rest through its last pointers.
 use judge::judge;
 use judge::worst_size;
 use leaves::wide;
@@ -67,7 +68,8 @@ pub extern "C" fn pelluvion_write(
     out: &mut [u8],
     size: &mut usize,
 ) -> u32
-    ensures { λ r. ⌜ TellsList (writeApart (now (kinds .entry)) (now (plans .entry)) (now (counts .entry)) (now (joined .entry)) (length (now (work .entry))) (length (now (out .entry)))) r (now (size .exit)) (now (out .entry)) (now (out .exit)) ⌝ }
+    ensures { λ r. ⌜ TellsList (writeApart (now (kinds .entry)) (now (plans .entry)) (now (counts .entry)) (now (joined .entry))
+        (length (now (work .entry))) (length (now (out .entry)))) r (now (size .exit)) (now (out .entry)) (now (out .exit)) ⌝ }
 {
     let written = write(kinds, plans, counts, joined, work, out);
     match written {
@@ -109,7 +111,8 @@ pub extern "C" fn pelluvion_read(
     out: &mut [u32],
     count: &mut usize,
 ) -> u32
-    ensures { λ r. ⌜ TellsList (readSheet (now (sheet .entry)) column (length (now (work .entry))) (length (now (out .entry)))) r (now (count .exit)) (now (out .entry)) (now (out .exit)) ⌝ }
+    ensures { λ r. ⌜ TellsList (readSheet (now (sheet .entry)) column (length (now (work .entry))) (length (now (out .entry)))) r (now (count .exit))
+        (now (out .entry)) (now (out .exit)) ⌝ }
 {
     let got = read(sheet, column, work, out);
     match got {
@@ -183,7 +186,8 @@ pub extern "C" fn pelluvion_board(
     failed: &mut usize,
     unended: &mut usize,
 ) -> u32
-    ensures { λ r. ⌜ Tallies (countBoard (now (sheet .entry)) (length (now (work .entry)))) r (now (column .exit)) (now (passed .exit)) (now (failed .exit)) (now (unended .exit)) ⌝ }
+    ensures { λ r. ⌜ Tallies (countBoard (now (sheet .entry)) (length (now (work .entry)))) r (now (column .exit)) (now (passed .exit))
+        (now (failed .exit)) (now (unended .exit)) ⌝ }
 {
     let counted = board(sheet, work);
     match counted {

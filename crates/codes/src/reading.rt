@@ -14,7 +14,7 @@ use words::byte_length;
 ghost use Rattle.meaning.specs.Codes.{codeOf, readCode};
 ghost use Rattle.meaning.specs.Places.{Target, Got};
 
-// Reads n numbers strictly into work from a place on. No unit's first number may have fitted into what the unit before left spare, and nothing may be left over.
+// Reads n numbers strictly into work from a place on: no unit's first number fits into what the unit before left spare, and nothing is left over.
 pub fn read_code(code: u8, body: &[u8], n: usize, work: &mut [u32], from: Place) -> Reading
     requires { ⌜ Target (now body) (now work) (from .number) n ⌝ }
     ensures { λ r. ⌜ Got (readCode (codeOf code) (now (body .entry)) n) (from .number) (now (work .entry)) (now (work .exit)) r ⌝ }

@@ -6,7 +6,8 @@ use mathlib.Core.List.{List, [], _∷_, map}
 use lib.Dec.{leb, ltb, eqb}
 use lib.ListN.{length, getD, take, drop}
 use Rattle.meaning.specs.Answer.{Answer, given, bind, need, list, Verdict, passed, blamed, _then_, ask, inTurn, after}
-use Rattle.meaning.specs.Limits.{mostColumns, mostNumbers, mostBytes, planBytes, rising, noColumn, noPlace, noRoom, shortWork, fallen, badOrders, badBoard}
+use Rattle.meaning.specs.Limits.{mostColumns, mostNumbers, mostBytes, planBytes, rising}
+use Rattle.meaning.specs.Limits.{noColumn, noPlace, noRoom, shortWork, fallen, badOrders, badBoard}
 use Rattle.meaning.specs.Lists.{all, sum, largest, differ}
 use Rattle.meaning.specs.Plan.{planOf, judgePlan, planUsed}
 use Rattle.meaning.specs.Stages.{look}

@@ -29,7 +29,8 @@ fn put_plan(plan: [u8; 15], plans: &mut [u8], at: Offset)
 
 // Writes a sheet by gathered orders: the writer is called with the orders taken apart.
 pub fn write_gathered(g: Gathered, joined: &[u32], work: &mut [u32], out: &mut [u8]) -> Sized
-    ensures { λ r. ⌜ Fills (writeGathered g (now (joined .entry)) (length (now (work .entry))) (length (now (out .entry)))) (now (out .entry)) (sizedSays r) (now (out .exit)) ⌝ }
+    ensures { λ r. ⌜ Fills (writeGathered g (now (joined .entry)) (length (now (work .entry))) (length (now (out .entry)))) (now (out .entry))
+        (sizedSays r) (now (out .exit)) ⌝ }
 {
     let n = g.n;
     if MOST_COLUMNS < n {

@@ -113,7 +113,8 @@ pub fn firsts_plan(
     from: Place,
 ) -> First
     requires { ⌜ (Fits (now body) (now work) stages n (from .number)) × (k ≤ n) ⌝ }
-    ensures { λ r. ⌜ Firsts (look (planAt stages (now (plan .entry)) (pos .byte)) (now (body .entry)) n) k (from .number) (now (work .entry)) (now (work .exit)) r ⌝ }
+    ensures { λ r. ⌜ Firsts (look (planAt stages (now (plan .entry)) (pos .byte)) (now (body .entry)) n) k (from .number) (now (work .entry))
+        (now (work .exit)) r ⌝ }
 {
     match stage_at(plan, pos, stages) {
         Stage::Bad => ended(0, k, FAULT),
@@ -148,7 +149,8 @@ fn firsts_runs(
     from: Place,
 ) -> First
     requires { ⌜ (Fits (now body) (now work) (suc stages) n (from .number)) × (k ≤ n) ⌝ }
-    ensures { λ r. ⌜ Firsts (look (runsAt stages (now (plan .entry)) (pos .byte)) (now (body .entry)) n) k (from .number) (now (work .entry)) (now (work .exit)) r ⌝ }
+    ensures { λ r. ⌜ Firsts (look (runsAt stages (now (plan .entry)) (pos .byte)) (now (body .entry)) n) k (from .number) (now (work .entry))
+        (now (work .exit)) r ⌝ }
 {
     match header_of(body, n) {
         Header::Refused(e) => ended(0, k, e),

@@ -32,7 +32,8 @@ pub fn read_plan(
     from: Place,
 ) -> Reading
     requires { ⌜ Fits (now body) (now work) stages n (from .number) ⌝ }
-    ensures { λ r. ⌜ Got (read (planAt stages (now (plan .entry)) (pos .byte)) (now (body .entry)) n) (from .number) (now (work .entry)) (now (work .exit)) r ⌝ }
+    ensures { λ r. ⌜ Got (read (planAt stages (now (plan .entry)) (pos .byte)) (now (body .entry)) n) (from .number) (now (work .entry))
+        (now (work .exit)) r ⌝ }
 {
     match stage_at(plan, pos, stages) {
         Stage::Bad => Reading::Refused(FAULT),
@@ -66,7 +67,8 @@ fn read_runs(
     from: Place,
 ) -> Reading
     requires { ⌜ Fits (now body) (now work) (suc stages) n (from .number) ⌝ }
-    ensures { λ r. ⌜ Got (read (runsAt stages (now (plan .entry)) (pos .byte)) (now (body .entry)) n) (from .number) (now (work .entry)) (now (work .exit)) r ⌝ }
+    ensures { λ r. ⌜ Got (read (runsAt stages (now (plan .entry)) (pos .byte)) (now (body .entry)) n) (from .number) (now (work .entry))
+        (now (work .exit)) r ⌝ }
 {
     match header_of(body, n) {
         Header::Refused(e) => Reading::Refused(e),

@@ -31,7 +31,8 @@ pub fn write_plan(
     at: Offset,
 ) -> Offset
     requires { ⌜ Fit stages n (from .number) (at .byte) (length (now work)) ⌝ }
-    ensures { λ r. ⌜ Written (planAt stages (now (plan .entry)) (pos .byte)) (part (now (work .entry)) (from .number) n) (from .number + n) (at .byte) (now (work .entry)) (now (work .exit)) (now (out .entry)) (now (out .exit)) r ⌝ }
+    ensures { λ r. ⌜ Written (planAt stages (now (plan .entry)) (pos .byte)) (part (now (work .entry)) (from .number) n) (from .number + n) (at .byte)
+        (now (work .entry)) (now (work .exit)) (now (out .entry)) (now (out .exit)) r ⌝ }
 {
     match stage_at(plan, pos, stages) {
         Stage::Bad => at,
@@ -83,7 +84,8 @@ fn write_runs(
     at: Offset,
 ) -> Offset
     requires { ⌜ FitRuns stages n (from .number) (at .byte) (length (now work)) ⌝ }
-    ensures { λ r. ⌜ Written (runsAt stages (now (plan .entry)) (pos .byte)) (part (now (work .entry)) (from .number) n) (from .number + n) (at .byte) (now (work .entry)) (now (work .exit)) (now (out .entry)) (now (out .exit)) r ⌝ }
+    ensures { λ r. ⌜ Written (runsAt stages (now (plan .entry)) (pos .byte)) (part (now (work .entry)) (from .number) n) (from .number + n) (at .byte)
+        (now (work .entry)) (now (work .exit)) (now (out .entry)) (now (out .exit)) r ⌝ }
 {
     let first = from.number;
     let start = at.byte;
@@ -119,7 +121,8 @@ fn write_runs(
 // Writes the first n numbers of work by a plan; 7n numbers of work are enough.
 pub fn write_list(plan: &[u8], work: &mut [u32], n: usize, out: &mut [u8], at: Offset) -> Offset
     requires { ⌜ (n ≤ mostNumbers) × (7 * n ≤ length (now work)) × (at .byte < 2 ^ 62) ⌝ }
-    ensures { λ r. ⌜ Written (planOf (now (plan .entry))) (take n (now (work .entry))) n (at .byte) (now (work .entry)) (now (work .exit)) (now (out .entry)) (now (out .exit)) r ⌝ }
+    ensures { λ r. ⌜ Written (planOf (now (plan .entry))) (take n (now (work .entry))) n (at .byte) (now (work .entry)) (now (work .exit))
+        (now (out .entry)) (now (out .exit)) r ⌝ }
 {
     write_plan(
         plan,

@@ -94,7 +94,8 @@ pub fn step<'s, 'a>(r: &'s mut Reader<'a>) -> Found
 
 // The answers of the first three calls of a reader opened over a column.
 pub fn first_three(sheet: &[u8], column: usize) -> FirstThree
-    ensures { λ r. ⌜ (foundSays (r .first) ≡ call (now (sheet .entry)) column 0) × (foundSays (r .second) ≡ call (now (sheet .entry)) column 1) × (foundSays (r .third) ≡ call (now (sheet .entry)) column 2) ⌝ }
+    ensures { λ r. ⌜ (foundSays (r .first) ≡ call (now (sheet .entry)) column 0) × (foundSays (r .second) ≡ call (now (sheet .entry)) column 1) ×
+        (foundSays (r .third) ≡ call (now (sheet .entry)) column 2) ⌝ }
 {
     let mut refusal: u8 = 0;
     let mut r = open(sheet, column, &mut refusal);

@@ -293,7 +293,8 @@ pub fn seek_in(lengths: &[u32], count: usize, n: usize, place: Place, done: Plac
 // The first `goal` numbers of n that k runs make, up to the first run that does not fit: the runs' values stand n places after them, their lengths 2n.
 pub fn spread(work: &mut [u32], from: Place, n: usize, goal: usize, k: usize) -> Laid
     requires { ⌜ (from .number + 3 * n ≤ length (now work)) × (goal ≤ n) × (k ≤ n) ⌝ }
-    ensures { λ r. ⌜ Spread (part (now (work .entry)) (from .number + n) k) (part (now (work .entry)) (from .number + 2 * n) k) n goal (from .number) (now (work .entry)) (now (work .exit)) r ⌝ }
+    ensures { λ r. ⌜ Spread (part (now (work .entry)) (from .number + n) k) (part (now (work .entry)) (from .number + 2 * n) k) n goal (from .number)
+        (now (work .entry)) (now (work .exit)) r ⌝ }
 {
     let first = from.number;
     let mut done = 0;
@@ -355,7 +356,8 @@ pub fn sum_up(work: &mut [u32], from: Place, n: usize) -> Reading
 // k runs become a list of n numbers: their values stand n places after it, their lengths 2n.
 pub fn unroll_into(work: &mut [u32], from: Place, n: usize, k: usize) -> Reading
     requires { ⌜ (from .number + 3 * n ≤ length (now work)) × (k ≤ n) ⌝ }
-    ensures { λ r. ⌜ Got (unrolled n (part (now (work .entry)) (from .number + n) k) (part (now (work .entry)) (from .number + 2 * n) k)) (from .number) (now (work .entry)) (now (work .exit)) r ⌝ }
+    ensures { λ r. ⌜ Got (unrolled n (part (now (work .entry)) (from .number + n) k) (part (now (work .entry)) (from .number + 2 * n) k))
+        (from .number) (now (work .entry)) (now (work .exit)) r ⌝ }
 {
     let values = from.number + n;
     if !differs_in(work, Place { number: values }, k) {

@@ -27,7 +27,8 @@ pub fn write(
     work: &mut [u32],
     out: &mut [u8],
 ) -> Sized
-    ensures { λ r. ⌜ WritesApart (now (kinds .entry)) (now (plans .entry)) (now (counts .entry)) (now (joined .entry)) (now (work .entry)) (now (out .entry)) (r, now (out .exit)) ⌝ }
+    ensures { λ r. ⌜ WritesApart (now (kinds .entry)) (now (plans .entry)) (now (counts .entry)) (now (joined .entry)) (now (work .entry))
+        (now (out .entry)) (r, now (out .exit)) ⌝ }
 {
     let held = orders_hold(kinds, plans, counts, joined);
     if !held {

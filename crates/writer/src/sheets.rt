@@ -28,7 +28,8 @@ ghost use Rattle.writer.specs.Orders.{columnsBy, Ordered, Laid, Room, Co
 // A column's entry is put at an offset.
 fn put_entry(out: &mut [u8], at: Offset, kind: u8, plan: &[u8], count: u32, size: u32)
     requires { ⌜ (at .byte + entrySize 1 < 2 ^ 64) × (length (now plan) ≡ planBytes) ⌝ }
-    ensures { λ _. ⌜ now (out .exit) ≡ sets (now (out .entry)) (at .byte) (entryBytes 1 (record { kind = kind; plan = now (plan .entry); count = count; size = size })) ⌝ }
+    ensures { λ _. ⌜ now (out .exit) ≡ sets (now (out .entry)) (at .byte)
+        (entryBytes 1 (record { kind = kind; plan = now (plan .entry); count = count; size = size })) ⌝ }
 {
     let start = at.byte;
     put(out, at, kind);
@@ -69,7 +70,8 @@ pub fn put_column(
     at: Offset,
 ) -> Offset
     requires { ⌜ Room (now plan) (length (now work)) n (slot .byte) (at .byte) ⌝ }
-    ensures { λ r. ⌜ ColumnPut (record { kind = kind; plan = now (plan .entry); numbers = take n (now (work .entry)) }) (slot .byte) (at .byte) (now (out .entry)) (now (out .exit)) r ⌝ }
+    ensures { λ r. ⌜ ColumnPut (record { kind = kind; plan = now (plan .entry); numbers = take n (now (work .entry)) }) (slot .byte) (at .byte)
+        (now (out .entry)) (now (out .exit)) r ⌝ }
 {
     let end = write_list(plan, work, n, out, at);
     if MOST_BYTES < end.byte {
@@ -90,7 +92,8 @@ pub fn put_sheet(
     out: &mut [u8],
 ) -> usize
     requires { ⌜ Ordered (now kinds) (now plans) (now counts) (now joined) × ((k : ℕ) → 7 * getD (now counts) k 0 ≤ length (now work)) ⌝ }
-    ensures { λ r. ⌜ Laid (sheetBytes (columnsBy (now (kinds .entry)) (now (plans .entry)) (now (counts .entry)) (now (joined .entry)))) (now (out .entry)) (now (out .exit)) r ⌝ }
+    ensures { λ r. ⌜ Laid (sheetBytes (columnsBy (now (kinds .entry)) (now (plans .entry)) (now (counts .entry)) (now (joined .entry))))
+        (now (out .entry)) (now (out .exit)) r ⌝ }
 {
     let n = kinds.len();
     put(out, Offset { byte: 0 }, EDITION);

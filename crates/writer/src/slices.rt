@@ -97,7 +97,8 @@ pub fn largest_of(counts: &[u32]) -> usize
 // Each plan that is really used, judged in turn.
 pub fn judge_orders(kinds: &[u8], plans: &[u8]) -> Judged
     requires { ⌜ length (now plans) ≡ planBytes * length (now kinds) ⌝ }
-    ensures { λ r. ⌜ ((counts numbers : List ℕ) → judgedSays r ≡ verdictTold (inTurn listJudged 0 (columnsBy (now (kinds .entry)) (now (plans .entry)) counts numbers))) ⌝ }
+    ensures { λ r. ⌜ ((counts numbers : List ℕ) → judgedSays r ≡ verdictTold
+        (inTurn listJudged 0 (columnsBy (now (kinds .entry)) (now (plans .entry)) counts numbers))) ⌝ }
 {
     let mut k: usize = 0;
     while k < kinds.len() {
