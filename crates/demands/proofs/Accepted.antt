@@ -1,4 +1,5 @@
--- Demand 3, first half: lists of their kinds within the limits, under plans that are passed, are written within the worst size, and what is written passes. Assumes nothing.
+-- Demand 3, first half: lists of their kinds within the limits, under plans that are passed, are written within the worst size, and what is written passes.
+-- Assumes nothing.
 use Prim.Native.Nat.{ℕ, zero, suc, _*_, _≤_, _<_}
 use mathlib.Core.Path.{_≡_, refl, sym, ap, _∙_}
 use mathlib.Core.Bool.{true, _&&_}
@@ -23,11 +24,11 @@ use Rattle.writer.proofs.Worst.{listed-small, listed-few, sheet-written}
 use Rattle.demands.proofs.Passing.{AllWritable, written-passes, list-back}
 
 -- ---- orders that hold
-pub record Held (orders : List Order) (numbers : List ℕ) : Type 0 where
+record Held (orders : List Order) (numbers : List ℕ) : Type 0 where
   pub few : length orders ≤ mostColumns
   pub each : all orderHolds orders ≡ true
 
-pub held : (orders : List Order) (numbers : List ℕ) → ordersHold orders numbers ≡ true → Held orders numbers
+held : (orders : List Order) (numbers : List ℕ) → ordersHold orders numbers ≡ true → Held orders numbers
 unfolding ordersHold
 held orders numbers e =
     let (f, rest) = both-true (leb (length orders) mostColumns) _ e in
@@ -73,7 +74,8 @@ after-given : {A : Type 0} (v : Verdict) (m : Answer A) (a : A) → after v m �
 after-given passed m a e = (refl, e)
 after-given (blamed z k) m a e = absurd (not-given z a e)
 
-pub accepted : (orders : List Order) (numbers : List ℕ) (work room : ℕ) (bytes : List ℕ) → writeSheet orders numbers work room ≡ given bytes → Accepted orders numbers bytes
+pub accepted : (orders : List Order) (numbers : List ℕ) (work room : ℕ) (bytes : List ℕ) → writeSheet orders numbers work room ≡ given bytes
+    → Accepted orders numbers bytes
 unfolding writeSheet writeListed
 accepted orders numbers work room bytes e =
     let ls = listedBy orders numbers in
@@ -92,20 +94,25 @@ accepted orders numbers work room bytes e =
     }
 
 -- ---- whatever was written passes the check, and its lists are those that were ordered
-module _ (orders : List Order) (numbers : List ℕ) (small : Below numberLimit numbers) (work room : ℕ) (bytes : List ℕ) (e : writeSheet orders numbers work room ≡ given bytes) where
+module _ (orders : List Order) (numbers : List ℕ) (small : Below numberLimit numbers)
+    (work room : ℕ) (bytes : List ℕ) (e : writeSheet orders numbers work room ≡ given bytes) where
   abbrev made : Accepted orders numbers bytes
   made = accepted orders numbers work room bytes e
 
-  pub write-passes : (checkWork : ℕ) → 8 * largest (map (λ (c : Listed). length (c .numbers)) (listedBy orders numbers)) ≤ checkWork → check bytes checkWork ≡ passed
+  writable : AllWritable (listedBy orders numbers)
+  writable = all-writable orders numbers small (made .holds) (made .judged) (made .risen)
+
+  pub write-passes : (checkWork : ℕ) → 8 * largest (map (λ (c : Listed). length (c .numbers)) (listedBy orders numbers)) ≤ checkWork
+      → check bytes checkWork ≡ passed
   write-passes checkWork h =
       ap (λ (s : List ℕ). check s checkWork) (made .is)
-      ∙ written-passes (listedBy orders numbers) (all-writable orders numbers small (made .holds) (made .judged) (made .risen))
+      ∙ written-passes (listedBy orders numbers) writable
       (few-columns orders numbers small (made .holds) (made .judged) (made .risen)) (made .short) checkWork h
 
   pub write-back : (k : ℕ) → k < length orders → numbersAt bytes k ≡ getD (listedBy orders numbers) k blankListed .numbers
   write-back k h =
       ap (λ (s : List ℕ). numbersAt s k) (made .is)
-      ∙ list-back (listedBy orders numbers) (all-writable orders numbers small (made .holds) (made .judged) (made .risen)) k (omega (arith, listed-count orders numbers))
+      ∙ list-back (listedBy orders numbers) writable k (omega (arith, listed-count orders numbers))
 
 -- ---- and whatever keeps the limits is written
 pub record NeverStuck (orders : List Order) (numbers : List ℕ) (work room : ℕ) : Type 0 where
@@ -123,4 +130,9 @@ pub never-stuck : (orders : List Order) (numbers : List ℕ) (work room : ℕ) �
 never-stuck orders numbers work room small holds judged risen enough short fits =
     let (w, most) = sheet-written orders numbers work room small holds judged risen enough short fits in
     let bytes = sheetBytes (listedBy orders numbers) in
-    record { written = w; within = most; passes = write-passes orders numbers small work room bytes w; reads = write-back orders numbers small work room bytes w }
+    record {
+      written = w;
+      within = most;
+      passes = write-passes orders numbers small work room bytes w;
+      reads = write-back orders numbers small work room bytes w;
+    }

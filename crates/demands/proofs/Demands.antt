@@ -13,8 +13,6 @@ use Rattle.meaning.specs.Operations.{writeSheet, writeApart, check, readSheet, 
 use Rattle.meaning.specs.Plan.{judge, worstSize}
 use Rattle.meaning.specs.Says.{judgedSays, sizedSays, readingSays, foundSays, checkedSays, countedSays}
 use Rattle.meaning.specs.Sheet.{Column, columnAt, readColumn}
-use Rattle.meaning.specs.declared.Sized.{Sized}
-use Rattle.meaning.specs.declared.Sized.the-variants.{Bytes}
 use Rattle.meaning.specs.declared.Reading.{Reading}
 use Rattle.meaning.specs.declared.Counted.{Counted}
 use Rattle.meaning.specs.declared.Counted.the-variants as counted
@@ -31,12 +29,12 @@ use Rattle.demands.specs.Demands.{Demand1, Demand2, Demand3}
 use Rattle.demands.specs.Own.{ownOrders, ownNumbers, ownKinds, ownPlans, ownCounts}
 use Rattle.demands.specs.Refusals.{refusal}
 use Rattle.demands.proofs.Accepted.{accepted}
-use Rattle.demands.proofs.Answered.{wrote, apart-is}
-use Rattle.demands.proofs.Forms.{refused-empty, by-verdict, by-number, by-answer, by-output, both}
+use Rattle.demands.proofs.Forms.{refused-empty, by-verdict, by-number, by-answer, by-output}
 use Rattle.demands.proofs.EndToEnd.{column-holds, carries}
+use Rattle.demands.proofs.Outputs.{both, filled-with}
 use Rattle.demands.proofs.Refusals.{judge-refusals, worst-refusals, write-refusals, apart-refusals, check-refusals, read-refusals}
 use Rattle.demands.proofs.Refusals.{lookup-refusals, fetch-refusals, open-refusals, board-refusals}
-use Rattle.demands.proofs.Rewritten.{same-sheet, same-apart}
+use Rattle.demands.proofs.Rewritten.{apart-is, same-sheet, same-apart}
 
 -- ---- demand 1
 -- a refused board has no tallies
@@ -116,13 +114,6 @@ fills-given : (m : Answer (List ℕ)) (n : ℕ) (o o′ : List ℕ) → given n 
     → (xs : List ℕ) × (m ≡ given xs) × (n ≡ length xs) × (o′ ≡ xs ++ drop n o)
 fills-given (given xs) n o o′ e f = let same : n ≡ length xs = cc in (xs, refl, same, f ∙ ap (λ (j : ℕ). xs ++ drop j o) (sym same))
 fills-given (refused z) n o o′ e f = absurd (not-given z n (sym e))
-
--- an answer and an output that are to be those of given bytes
-filled-with : (m : Answer (List ℕ)) (bytes o : List ℕ) (a : Sized × List ℕ) → m ≡ given bytes → (sizedSays (a .0) ≡ amount m) × (a .1 ≡ filled m o)
-    → a ≡ (Bytes (length bytes), bytes ++ drop (length bytes) o)
-filled-with m bytes o a e t =
-    let (says, leaves) = wrote m bytes (a .0) o (a .1) e t in
-    both a (Bytes (length bytes), bytes ++ drop (length bytes) o) (one-sized (a .0) (Bytes (length bytes)) (given (length bytes)) says refl, leaves)
 
 pub demand-2 : Demand2
 unfolding numbersAt

@@ -1,14 +1,13 @@
 -- Demand 3 over the contracts alone: a sheet that passes is looked up, read and stepped through, and lists within the limits come back from end to end.
 -- Assumes nothing.
 use Prim.Native.Nat.{ℕ, zero, suc, _*_, _≤_, _<_}
-use mathlib.Core.Path.{_≡_, refl, sym, ap, _∙_, subst}
+use mathlib.Core.Path.{_≡_, sym, ap, _∙_, subst}
 use mathlib.Core.List.{List, _++_}
 use native.Mathlib.Omega.{arith}
 use lib.ListN.{length, getD, take, drop, length-map}
-use Rattle.meaning.specs.Answer.{Answer, given, number, amount, filled, passed}
-use Rattle.meaning.specs.Operations.{Order, listedBy, writeSheet, check, numbersAt}
+use Rattle.meaning.specs.Answer.{Answer, given, number, list, amount, filled, passed}
+use Rattle.meaning.specs.Operations.{Order, listedBy, writeSheet, check, openReader, callOver, call, numbersAt}
 use Rattle.meaning.specs.Places.{Below}
-use Rattle.meaning.specs.Says.{sizedSays}
 use Rattle.meaning.specs.Sheet.{Listed, columnFor, assemble, sheetBytes, columnsOf, columnAt, readColumn, largestCount}
 use Rattle.meaning.specs.declared.Sized.{Sized}
 use Rattle.meaning.specs.declared.Sized.the-variants.{Bytes}
@@ -18,7 +17,6 @@ use Rattle.meaning.specs.declared.Found.{Found}
 use Rattle.meaning.specs.declared.Found.the-variants.{Number}
 use Rattle.meaning.specs.declared.Checked.{Checked}
 use Rattle.meaning.specs.declared.Checked.the-variants.{Passed}
-use Rattle.judge.proofs.Unique.{one-sized}
 use Rattle.table.proofs.ColumnLaws.{column-there}
 use Rattle.table.proofs.Columns.{column-count}
 use Rattle.writer.specs.Orders.{blankListed}
@@ -34,10 +32,7 @@ use Rattle.reader.proofs.Unique.{one-call}
 use Rattle.demands.specs.Contracts.{Writes, Checks, Reads, Looks, Opens, Steps}
 use Rattle.demands.specs.Demands.{Within, Holds, Carries}
 use Rattle.demands.proofs.Accepted.{all-writable, few-columns, NeverStuck, never-stuck}
-use Rattle.demands.proofs.Answered.{wrote}
-use Rattle.demands.proofs.Forms.{both}
-use Rattle.demands.proofs.Fronts.{calls-all}
-use Rattle.demands.proofs.Outputs.{first-filled}
+use Rattle.demands.proofs.Outputs.{first-filled, both, filled-with}
 use Rattle.demands.proofs.Passing.{AllWritable, written-largest, list-back}
 use Rattle.demands.proofs.WrittenBytes.{written-bytes}
 
@@ -65,9 +60,21 @@ module _ (sheet : List ℕ) (bytes : Below 256 sheet) (checkWork : ℕ) (passes 
       (one-read sheet k (length work) o (a .1) (xs ++ drop (length xs) o) (a .0) (Whole (length xs)) t
       (ap amount (sym e), sym (ap (λ (m : Answer (List ℕ)). filled m o) e)))
 
+  opening : openReader sheet k ≡ given sheet
+  opening = open-there sheet k (columnAt sheet k) (column-there sheet k (check-passed sheet checkWork passes .ready .sounds) there)
+
   opens : (reader : Reader) (e : ℕ) → Opens sheet k (standing reader, e) → e ≡ 0
-  opens reader e t =
-      t .1 ∙ ap number (open-there sheet k (columnAt sheet k) (column-there sheet k (check-passed sheet checkWork passes .ready .sounds) there))
+  opens reader e t = t .1 ∙ ap number opening
+
+  -- each call of a reader, while places last, gives the number of the defined reading
+  calls-over : (n : ℕ) → n < length xs → callOver sheet k n ≡ given (getD xs n 0)
+  unfolding callOver
+  calls-over zero h = looks-all sheet bytes checkWork passes k there 0 (omega (arith, many))
+  calls-over (suc n) h = rw (calls-over n (omega arith)) (looks-all sheet bytes checkWork passes k there (suc n) (omega (arith, many)))
+
+  pub calls-all : (n : ℕ) → n < length (numbersAt sheet k) → call sheet k n ≡ given (getD (numbersAt sheet k) n 0)
+  unfolding call
+  calls-all n h = ap (λ (m : Answer (List ℕ)). callOver (list m) k n) opening ∙ calls-over n h
 
   -- where the reader of call n stands
   stands : (readers : ℕ → Reader) (n : ℕ) → standing (readers 0) ≡ opened sheet k → ((i : ℕ) → i < n → readers (suc i) ≡ moved (readers i))
@@ -81,7 +88,7 @@ module _ (sheet : List ℕ) (bytes : Below 256 sheet) (checkWork : ℕ) (passes 
   calls readers answers e n t steps h =
       let here = stands readers n (t .0) (λ i l. steps i (omega arith) .1) in
       one-call sheet k n (answers n) (Number (getD xs n 0)) (tells-call sheet k n (readers n) (answers n) here (steps n (omega arith) .0))
-      (sym (calls-all sheet bytes checkWork passes k there n (omega (arith, many))))
+      (sym (calls-all n h))
 
   holds-it : Holds sheet k (numbersAt sheet k)
   holds-it = record { looks = looks; reads = reads; opens = opens; calls = calls }
@@ -120,17 +127,17 @@ module _ (orders : List Order) (joined work o : List ℕ) (w : Within orders joi
       (holds-it sheet bytes (8 * largestCount sheet) (passes (8 * largestCount sheet) (omega arith)) k (omega (arith, many-columns)))
 
   module _ (a : Sized × List ℕ) (t : Writes orders joined work o a) where
-    answered : (sizedSays (a .0) ≡ given (length sheet)) × (a .1 ≡ sheet ++ drop (length sheet) o)
-    answered = wrote (writeSheet orders joined (length work) (length o)) sheet (a .0) o (a .1) (stuck .written) t
+    answered : a ≡ (Bytes (length sheet), sheet ++ drop (length sheet) o)
+    answered = filled-with (writeSheet orders joined (length work) (length o)) sheet o a (stuck .written) t
 
     is : sheet ≡ take (length sheet) (a .1)
-    is = sym (ap (take (length sheet)) (answered .1) ∙ first-filled o sheet)
+    is = sym (ap (λ (b : Sized × List ℕ). take (length sheet) (b .1)) answered ∙ first-filled o sheet)
 
     pub carries : Carries orders joined a
     carries =
         record {
           size = length sheet;
-          written = one-sized (a .0) (Bytes (length sheet)) (given (length sheet)) (answered .0) refl;
+          written = ap (λ (b : Sized × List ℕ). b .0) answered;
           most = stuck .within;
           bytes = subst (Below 256) is bytes;
           passes = subst (λ (s : List ℕ). (work : List ℕ) → 8 * largestCount s ≤ length work → (r : Checked) → Checks s work r → r ≡ Passed) is

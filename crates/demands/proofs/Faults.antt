@@ -20,7 +20,8 @@ use Rattle.codes.proofs.Numbered.{laws}
 
 -- ---- units in turn
 module _ {P : Type 0} (unit : ℕ → P → Answer (P × List ℕ)) (h : (left : ℕ) (p : P) → Faulty (unit left p)) where
-  read-from-faulty : (joins : List ℕ → List ℕ → Bool) (done : P → Bool) (units n : ℕ) (before : List ℕ) (p : P) → Faulty (readFrom unit joins done units n before p)
+  read-from-faulty : (joins : List ℕ → List ℕ → Bool) (done : P → Bool) (units n : ℕ) (before : List ℕ) (p : P)
+      → Faulty (readFrom unit joins done units n before p)
   unfolding readFrom
   read-from-faulty joins done zero zero before p = need-faulty (done p) _ tt
   read-from-faulty joins done zero (suc n) before p = refl
@@ -28,7 +29,8 @@ module _ {P : Type 0} (unit : ℕ → P → Answer (P × List ℕ)) (h : (left :
   read-from-faulty joins done (suc units) (suc n) before p =
       bind-faulty (unit (suc n) p) _ (h (suc n) p) (λ u.
       need-faulty (joins before (u .1)) _
-      (bind-faulty (readFrom unit joins done units (suc n - length (u .1)) (u .1) (u .0)) _ (read-from-faulty joins done units (suc n - length (u .1)) (u .1) (u .0)) (λ xs. tt)))
+      (bind-faulty (readFrom unit joins done units (suc n - length (u .1)) (u .1) (u .0)) _
+      (read-from-faulty joins done units (suc n - length (u .1)) (u .1) (u .0)) (λ xs. tt)))
 
   look-from-faulty : (units left place : ℕ) (p : P) → Faulty (lookFrom unit units left place p)
   unfolding lookFrom
@@ -40,7 +42,8 @@ module _ {P : Type 0} (unit : ℕ → P → Answer (P × List ℕ)) (h : (left :
 module _ (c : Code) (f : Lawful c) (body : List ℕ) (n : ℕ) where
   read-code-faulty : Faulty (readCode c body n)
   unfolding readCode readUnits
-  read-code-faulty = bind-faulty (c .start body n) _ (f .begins body n) (λ p. read-from-faulty (c .unit body) (f .faulty body) (c .joins) (c .done body) n n [] p)
+  read-code-faulty =
+      bind-faulty (c .start body n) _ (f .begins body n) (λ p. read-from-faulty (c .unit body) (f .faulty body) (c .joins) (c .done body) n n [] p)
 
   look-code-faulty : (place : ℕ) → Faulty (lookCode c body n place)
   unfolding lookCode lookUnits
@@ -63,7 +66,9 @@ pub read-faulty : (p : Plan) (body : List ℕ) (n : ℕ) → Faulty (read p body
 unfolding read
 read-faulty bad body n = refl
 read-faulty (code c) body n = read-code-faulty (codeOf c) (laws c) body n
-read-faulty (reference p) body n = need-faulty (leb 4 (length body)) _ (bind-faulty (read p (drop 4 body) n) _ (read-faulty p (drop 4 body) n) (λ xs. raised-faulty (wordAt body 0) xs))
+read-faulty (reference p) body n =
+    need-faulty (leb 4 (length body)) _
+    (bind-faulty (read p (drop 4 body) n) _ (read-faulty p (drop 4 body) n) (λ xs. raised-faulty (wordAt body 0) xs))
 read-faulty (differences p) body n = bind-faulty (read p body n) _ (read-faulty p body n) (λ xs. summed-faulty xs)
 read-faulty (runs p q) body n =
     need-faulty (runHeader n body) _
@@ -94,7 +99,8 @@ unfolding look
 look-faulty bad body n place = refl
 look-faulty (code c) body n place = look-code-faulty (codeOf c) (laws c) body n place
 look-faulty (reference p) body n place =
-    need-faulty (leb 4 (length body)) _ (bind-faulty (look p (drop 4 body) n place) _ (look-faulty p (drop 4 body) n place) (λ x. within-faulty (wordAt body 0 + x)))
+    need-faulty (leb 4 (length body)) _
+    (bind-faulty (look p (drop 4 body) n place) _ (look-faulty p (drop 4 body) n place) (λ x. within-faulty (wordAt body 0 + x)))
 look-faulty (differences p) body n place =
     bind-faulty (total (look p body n) (place + 1)) _ (total-faulty (look p body n) (λ i. look-faulty p body n i) (place + 1)) (λ x. within-faulty x)
 look-faulty (runs p q) body n place =
@@ -106,4 +112,6 @@ look-faulty (runs p q) body n place =
 -- ---- a column
 pub column-faulty : (c : Column) → Faulty (readColumn c)
 unfolding readColumn
-column-faulty c = bind-faulty (read (planOf (c .plan)) (c .body) (c .count)) _ (read-faulty (planOf (c .plan)) (c .body) (c .count)) (λ xs. need-faulty (ofKind (c .kind) xs) _ tt)
+column-faulty c =
+    let p = planOf (c .plan) in
+    bind-faulty (read p (c .body) (c .count)) _ (read-faulty p (c .body) (c .count)) (λ xs. need-faulty (ofKind (c .kind) xs) _ tt)

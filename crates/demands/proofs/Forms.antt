@@ -10,6 +10,7 @@ use Rattle.meaning.specs.Lists.{all}
 use Rattle.demands.specs.Contracts.{Fills}
 use Rattle.demands.specs.Demands.{Answers}
 use Rattle.demands.specs.Refusals.{RefusesBy, BlamesBy, verdictOf, refusal}
+use Rattle.demands.proofs.Outputs.{both}
 use Rattle.demands.proofs.Refusals.{zero-passes}
 
 -- an answer and its verdict refuse by the same number
@@ -50,10 +51,6 @@ module _ {A : Type 0} (es : List ℕ) (some : all (leb 1) es ≡ true) where
   pub by-answer : {B : Type 0} (says : A → Answer B) (m : Answer B) → RefusesBy es m → ((a b : A) → says a ≡ m → says b ≡ m → a ≡ b)
       → Answers (λ a. says a ≡ m) (λ a. number (says a)) (verdictOf m) es (λ a. Unit {0})
   by-answer says m h one = by-number (λ a. says a ≡ m) (λ a. number (says a)) m (λ a. Unit {0}) h one (λ a t. ap number t) (λ a t l. tt)
-
--- equal parts make equal pairs
-pub both : {A B : Type 0} (a b : A × B) → (a .0 ≡ b .0) × (a .1 ≡ b .1) → a ≡ b
-both a b h = λ i. (h .0 i, h .1 i)
 
 -- a list goes to an output, and how long it is is told
 pub by-output : {A : Type 0} (es : List ℕ) → all (leb 1) es ≡ true → (says : A → Answer ℕ) (m : Answer (List ℕ)) (o : List ℕ) → RefusesBy es m

@@ -57,7 +57,8 @@ unfolding wellFormed
 formed-used kind plan e =
     let (l, rest) = both-true (eqb (length plan) planBytes) _ e in
     let (g, z) = both-true (good (planOf plan)) _ rest in
-    (eqb-true (length plan) planBytes l, sym (used-given kind plan (not-zeros (all (eqb 0) plan) (good (planOf plan)) g (λ t. zeros-bad plan (zero-first plan t)))))
+    let some = not-zeros (all (eqb 0) plan) (good (planOf plan)) g (λ t. zeros-bad plan (zero-first plan t)) in
+    (eqb-true (length plan) planBytes l, sym (used-given kind plan some))
   where
     not-zeros : (t u : Bool) → u ≡ true → (t ≡ true → u ≡ false) → t ≡ false
     not-zeros true true e f = f refl

@@ -7,8 +7,6 @@ pub mod Rewritten
 pub mod Outputs
 pub mod Faults
 pub mod Refusals
-pub mod Answered
-pub mod Fronts
 pub mod WrittenBytes
 pub mod Contracts
 pub mod Forms

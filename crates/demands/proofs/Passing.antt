@@ -13,7 +13,8 @@ use Rattle.meaning.specs.Lists.{all, sum, joined, largest}
 use Rattle.meaning.specs.Operations.{check, numbersAt}
 use Rattle.meaning.specs.Places.{Below}
 use Rattle.meaning.specs.Plan.{planOf, judgePlan}
-use Rattle.meaning.specs.Sheet.{Listed, ofKind, bodyOf, columnFor, assemble, sheetBytes, Column, columnsOf, columnAt, isSheet, tableHolds, sound, readColumn, checkColumn, largestCount, tableSize}
+use Rattle.meaning.specs.Sheet.{Listed, ofKind, bodyOf, columnFor, assemble, sheetBytes, Column, columnsOf, columnAt, readColumn}
+use Rattle.meaning.specs.Sheet.{isSheet, tableHolds, sound, checkColumn, largestCount, tableSize}
 use Rattle.meaning.proofs.Tests.{true-both}
 use Rattle.codes.proofs.Numbered.{laws}
 use Rattle.stages.proofs.Forth.{forth-plan}
@@ -46,7 +47,7 @@ module _ (l : Listed) (w : Writable l) where
   pub fits : Fits l
   fits = record { planned = judged-long l tt (w .judged); few = omega (arith, w .few); short = omega (arith, body-short) }
 
-  pub column-back : readColumn (columnFor l) ≡ given (l .numbers)
+  column-back : readColumn (columnFor l) ≡ given (l .numbers)
   unfolding readColumn
   column-back =
       rw (forth-plan laws (l .plan) (l .kind) (l .numbers) (plan-passed (l .kind) (l .plan) tt (w .judged) .1) (w .risen) (w .small) (w .few), w .risen)
@@ -58,7 +59,8 @@ module _ {A B : Type 0} (f : A → B) where
   getD-map (x ∷ xs) a b zero h = refl
   getD-map (x ∷ xs) a b (suc k) h = getD-map xs a b k (omega arith)
 
-pub all-turn : {A B C : Type 0} (f : A → Answer B) (g : C → A) (j : ℕ) (d : C) (xs : List C) → ((k : ℕ) → k < length xs → (b : B) × (f (g (getD xs k d)) ≡ given b)) → inTurn f j (map g xs) ≡ passed
+pub all-turn : {A B C : Type 0} (f : A → Answer B) (g : C → A) (j : ℕ) (d : C) (xs : List C)
+    → ((k : ℕ) → k < length xs → (b : B) × (f (g (getD xs k d)) ≡ given b)) → inTurn f j (map g xs) ≡ passed
 all-turn f g j d [] h = refl
 all-turn f g j d (x ∷ xs) h =
     let (b, e) = h 0 (omega arith) in
@@ -97,7 +99,7 @@ module _ (ls : List Listed) (writable : AllWritable ls) where
 
   -- column k holds what it was written from, and its list is read back
   module _ (k : ℕ) (h : k < length ls) where
-    pub written-column : columnAt (sheetBytes ls) k ≡ columnFor (getD ls k blankListed)
+    written-column : columnAt (sheetBytes ls) k ≡ columnFor (getD ls k blankListed)
     written-column = ap (λ (cs : List Column). getD cs k blankColumn) columns ∙ getD-map columnFor ls blankListed blankColumn k h
 
     pub list-back : numbersAt (sheetBytes ls) k ≡ getD ls k blankListed .numbers
@@ -116,13 +118,14 @@ module _ (ls : List Listed) (writable : AllWritable ls) where
     a-table : tableHolds (sheetBytes ls) ≡ true
     unfolding tableHolds
     a-table =
-        let filled : tableSize (sheetBytes ls) + sum (map (λ (c : Column). c .size) (columnsOf (sheetBytes ls))) ≡ length (sheetBytes ls) =
-        ap (λ (cs : List Column). tableSize (sheetBytes ls) + sum (map (λ (c : Column). c .size) cs)) columns
-        ∙ ap (λ (j : ℕ). tableSize (sheetBytes ls) + j) (sizes ls)
+        let s = sheetBytes ls in
+        let filled : tableSize s + sum (map (λ (c : Column). c .size) (columnsOf s)) ≡ length s =
+        ap (λ (cs : List Column). tableSize s + sum (map (λ (c : Column). c .size) cs)) columns
+        ∙ ap (λ (j : ℕ). tableSize s + j) (sizes ls)
         ∙ sym size in
-        true-both (leb (tableSize (sheetBytes ls)) (length (sheetBytes ls))) _ (le-leb (tableSize (sheetBytes ls)) (length (sheetBytes ls)) (omega (arith, size)))
-        (true-both (all entryHolds (columnsOf (sheetBytes ls))) _ (ap (all entryHolds) columns ∙ entries-hold ls writable)
-        (eq-eqb (tableSize (sheetBytes ls) + sum (map (λ (c : Column). c .size) (columnsOf (sheetBytes ls)))) (length (sheetBytes ls)) filled))
+        true-both (leb (tableSize s) (length s)) _ (le-leb (tableSize s) (length s) (omega (arith, size)))
+        (true-both (all entryHolds (columnsOf s)) _ (ap (all entryHolds) columns ∙ entries-hold ls writable)
+        (eq-eqb (tableSize s + sum (map (λ (c : Column). c .size) (columnsOf s))) (length s) filled))
 
     written-sound : sound (sheetBytes ls) ≡ passed
     written-sound =

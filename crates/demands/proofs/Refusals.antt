@@ -8,16 +8,18 @@ use lib.Dec.{leb, ltb, eqb}
 use lib.ListN.{length}
 use borrow.Author.Tests.{eqb-true, leb-true}
 use Rattle.meaning.specs.Answer.{Answer, given, refused, bind, need, number, Verdict, passed, blamed, _then_, ask, inTurn, after}
-use Rattle.meaning.specs.Limits.{mostNumbers, mostBytes, planBytes, rising, fault, noSheet, badTable, badPlan, unfitPlan, noColumn, noPlace, noRoom, shortWork, fallen, badOrders, badBoard}
+use Rattle.meaning.specs.Limits.{mostNumbers, mostBytes, rising}
+use Rattle.meaning.specs.Limits.{noSheet, badTable, badPlan, unfitPlan, noColumn, noPlace, noRoom, shortWork, fault, fallen, badOrders, badBoard}
 use Rattle.meaning.specs.Lists.{all, largest}
-use Rattle.meaning.specs.Operations.{Order, listedBy, ordersHold, writeListed, writeSheet, ordersOf, writeApart, check, column, readSheet, lookSheet, fetch, openReader, numbersAt, boardHolds, boardVerdict, tallied, countBoard}
+use Rattle.meaning.specs.Operations.{Order, listedBy, ordersHold, ordersOf, column, numbersAt, boardHolds, boardVerdict, tallied}
+use Rattle.meaning.specs.Operations.{writeListed, writeSheet, writeApart, check, readSheet, lookSheet, fetch, openReader, countBoard}
 use Rattle.meaning.specs.Plan.{planOf, wellFormed, passes, judgePlan, judge, worstSize}
 use Rattle.meaning.specs.Sheet.{Listed, sheetBytes, Column, columnsOf, isSheet, tableHolds, sound, readColumn, checkColumn, largestCount}
 use Rattle.meaning.specs.Stages.{look}
 use Rattle.meaning.proofs.Answers.{Faulty}
 use Rattle.meaning.proofs.Tests.{both-true, by-test}
 use Rattle.table.proofs.InTurn.{turn-passed, turn-refused}
-use Rattle.writer.specs.Orders.{listJudged, listRises}
+use Rattle.writer.specs.Orders.{listJudged, listRises, longTogether}
 use Rattle.demands.specs.Refusals.{among, RefusesBy, BlamesBy, refusal}
 use Rattle.demands.proofs.Faults.{column-faulty, look-faulty}
 
@@ -59,7 +61,8 @@ module _ (es : List ℕ) where
   unfolding judgePlan
   plan-by i j kind plan = by-need (wellFormed plan) badPlan _ i (by-need (passes kind (planOf plan)) unfitPlan _ j tt)
 
-  module _ (one : among noSheet es ≡ true) (two : among badTable es ≡ true) (three : among badPlan es ≡ true) (four : among unfitPlan es ≡ true) (sheet : List ℕ) where
+  module _ (one : among noSheet es ≡ true) (two : among badTable es ≡ true) (three : among badPlan es ≡ true) (four : among unfitPlan es ≡ true)
+      (sheet : List ℕ) where
     sound-by : BlamesBy es (sound sheet)
     unfolding sound
     sound-by =
@@ -100,10 +103,11 @@ write-refusals orders numbers work room =
     (by-need writing (leb (7 * largest (map (λ (c : Listed). length (c .numbers)) ls)) work) shortWork _ refl
     (by-need writing (leb (length (sheetBytes ls)) mostBytes && leb (length (sheetBytes ls)) room) noRoom _ refl tt))))
 
-pub apart-refusals : (kinds plans counts numbers : List ℕ) (work room : ℕ) → RefusesBy (3 ∷ 4 ∷ 7 ∷ 8 ∷ 10 ∷ 11 ∷ []) (writeApart kinds plans counts numbers work room)
+pub apart-refusals : (kinds plans counts numbers : List ℕ) (work room : ℕ)
+    → RefusesBy (3 ∷ 4 ∷ 7 ∷ 8 ∷ 10 ∷ 11 ∷ []) (writeApart kinds plans counts numbers work room)
 unfolding writeApart among
 apart-refusals kinds plans counts numbers work room =
-    by-need writing (eqb (length plans) (planBytes * length kinds) && eqb (length counts) (length kinds)) badOrders _ refl (write-refusals (ordersOf kinds plans counts) numbers work room)
+    by-need writing (longTogether kinds plans counts) badOrders _ refl (write-refusals (ordersOf kinds plans counts) numbers work room)
 
 pub check-refusals : (sheet : List ℕ) (work : ℕ) → BlamesBy (1 ∷ 2 ∷ 3 ∷ 4 ∷ 8 ∷ 9 ∷ []) (check sheet work)
 unfolding among
@@ -119,7 +123,8 @@ pub lookup-refusals : (sheet : List ℕ) (k place : ℕ) → RefusesBy (1 ∷ 2 
 unfolding lookSheet among
 lookup-refusals sheet k place =
     by-bind _ (column sheet k) _ (column-by _ refl refl refl refl sheet refl k) (λ c.
-    by-need _ (ltb place (c .count)) noPlace _ refl (by-fault _ (look (planOf (c .plan)) (c .body) (c .count) place) refl (look-faulty (planOf (c .plan)) (c .body) (c .count) place)))
+    let p = planOf (c .plan) in
+    by-need _ (ltb place (c .count)) noPlace _ refl (by-fault _ (look p (c .body) (c .count) place) refl (look-faulty p (c .body) (c .count) place)))
 
 pub fetch-refusals : (sheet : List ℕ) (k : ℕ) → RefusesBy (1 ∷ 2 ∷ 3 ∷ 4 ∷ 5 ∷ []) (fetch sheet k)
 unfolding fetch among
@@ -145,7 +150,8 @@ unfolding among all
 among-some e [] h i z = let y : _≡_ {A = ℕ} 0 1 = cc in omega arith
 among-some e (x ∷ es) h i z =
     let (a, b) = both-true (leb 1 x) (all (leb 1) es) h in
-    by-test (eqb e x) (λ t. let s : e ≡ x = eqb-true e x t in let l = leb-true 1 x a in omega arith) (λ f. among-some e es b (sym (ap (λ (q : Bool). q || among e es) f) ∙ i) z)
+    by-test (eqb e x) (λ t. let s : e ≡ x = eqb-true e x t in let l = leb-true 1 x a in omega arith)
+    (λ f. among-some e es b (sym (ap (λ (q : Bool). q || among e es) f) ∙ i) z)
 
 pub zero-accepts : {A : Type 0} (es : List ℕ) (m : Answer A) → all (leb 1) es ≡ true → RefusesBy es m → number m ≡ 0 → (a : A) × (m ≡ given a)
 zero-accepts es (given a) h i z = (a, refl)

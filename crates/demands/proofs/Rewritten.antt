@@ -4,7 +4,7 @@ use mathlib.Core.Path.{_≡_, refl, sym, ap, ap₂, _∙_}
 use mathlib.Core.Bool.{true}
 use mathlib.Core.List.{List, [], _∷_, map}
 use native.Mathlib.Omega.{arith}
-use lib.Dec.{leb, eqb}
+use lib.Dec.{leb}
 use lib.ListN.{length, length-append, length-map}
 use lib.Seq.{take-at, drop-at}
 use borrow.Author.Tests.{le-leb, eq-eqb}
@@ -53,7 +53,9 @@ unfolding all
 own-holds [] kept = refl
 own-holds (c ∷ cs) kept =
     let f = kept 0 (omega arith) in
-    true-both (orderHolds (orderFor c)) _ (true-both (leb (c .kind) rising) _ (le-leb (c .kind) rising (f .kind)) (le-leb (c .count) mostNumbers (f .few))) (own-holds cs (later c cs kept))
+    true-both (orderHolds (orderFor c)) _
+    (true-both (leb (c .kind) rising) _ (le-leb (c .kind) rising (f .kind)) (le-leb (c .count) mostNumbers (f .few)))
+    (own-holds cs (later c cs kept))
 
 own-sum : (cs : List Column) → AllKept cs → sum (map (λ (o : Order). o .count) (map orderFor cs)) ≡ length (joined numbersFor cs)
 unfolding sum joined
@@ -70,20 +72,37 @@ own-lengths [] kept = refl
 own-lengths (c ∷ cs) kept = ap₂ (λ (n : ℕ) (t : List ℕ). n ∷ t) (kept 0 (omega arith) .many) (own-lengths cs (later c cs kept))
 
 -- ---- taken apart
-own-apart : (cs : List Column) → AllKept cs → ordersOf (map (λ (c : Column). c .kind) cs) (joined (λ (c : Column). c .plan) cs) (map (λ (c : Column). c .count) cs) ≡ map orderFor cs
+-- slices that are as long together as orders are: the writer on orders taken apart is the writer on those orders
+pub apart-is : (kinds plans counts numbers : List ℕ) (work room : ℕ) → length plans ≡ planBytes * length kinds → length counts ≡ length kinds
+    → writeApart kinds plans counts numbers work room ≡ writeSheet (ordersOf kinds plans counts) numbers work room
+unfolding writeApart
+apart-is kinds plans counts numbers work room planned counted =
+    rw (eq-eqb (length plans) (planBytes * length kinds) planned, eq-eqb (length counts) (length kinds) counted)
+
+-- the slices of columns
+abbrev kindsOf : List Column → List ℕ
+kindsOf cs = map (λ (c : Column). c .kind) cs
+
+abbrev plansOf : List Column → List ℕ
+plansOf cs = joined (λ (c : Column). c .plan) cs
+
+abbrev countsOf : List Column → List ℕ
+countsOf cs = map (λ (c : Column). c .count) cs
+
+own-apart : (cs : List Column) → AllKept cs → ordersOf (kindsOf cs) (plansOf cs) (countsOf cs) ≡ map orderFor cs
 unfolding ordersOf joined
 own-apart [] kept = refl
 own-apart (c ∷ cs) kept =
     let f = kept 0 (omega arith) in
-    let rest = joined (λ (d : Column). d .plan) cs in
+    let rest = plansOf cs in
     ap₂ (λ (o : Order) (os : List Order). o ∷ os)
     (ap (λ (p : List ℕ). record { kind = c .kind; plan = p; count = c .count }) (take-at (c .plan) rest planBytes (f .planned)))
-    (ap (λ (p : List ℕ). ordersOf (map (λ (d : Column). d .kind) cs) p (map (λ (d : Column). d .count) cs)) (drop-at (c .plan) rest planBytes (f .planned)) ∙ own-apart cs (later c cs kept))
+    (ap (λ (p : List ℕ). ordersOf (kindsOf cs) p (countsOf cs)) (drop-at (c .plan) rest planBytes (f .planned)) ∙ own-apart cs (later c cs kept))
 
-own-plans : (cs : List Column) → AllKept cs → length (joined (λ (c : Column). c .plan) cs) ≡ planBytes * length cs
+own-plans : (cs : List Column) → AllKept cs → length (plansOf cs) ≡ planBytes * length cs
 unfolding joined
 own-plans [] kept = refl
-own-plans (c ∷ cs) kept = omega (arith, length-append (c .plan) (joined (λ (d : Column). d .plan) cs), kept 0 (omega arith) .planned, own-plans cs (later c cs kept))
+own-plans (c ∷ cs) kept = omega (arith, length-append (c .plan) (plansOf cs), kept 0 (omega arith) .planned, own-plans cs (later c cs kept))
 
 module _ (sheet : List ℕ) (bytes : Below 256 sheet) (checkWork : ℕ) (passes : check sheet checkWork ≡ passed) where
   abbrev cs : List Column
@@ -122,20 +141,18 @@ module _ (sheet : List ℕ) (bytes : Below 256 sheet) (checkWork : ℕ) (passes 
     unfolding ordersHold
     own-orders =
         let is = sound-sheet sheet (check-passed sheet checkWork passes .ready .sounds) in
-        true-both (leb (length (ownOrders sheet)) mostColumns) _ (le-leb (length (ownOrders sheet)) mostColumns (omega (arith, length-map cs orderFor, column-count sheet, is .few)))
-        (true-both (all orderHolds (ownOrders sheet)) _ (own-holds cs kept) (eq-eqb (sum (map (λ (o : Order). o .count) (ownOrders sheet))) (length (ownNumbers sheet)) (own-sum cs kept)))
+        let few = le-leb (length (ownOrders sheet)) mostColumns (omega (arith, length-map cs orderFor, column-count sheet, is .few)) in
+        let whole = eq-eqb (sum (map (λ (o : Order). o .count) (ownOrders sheet))) (length (ownNumbers sheet)) (own-sum cs kept) in
+        true-both (leb (length (ownOrders sheet)) mostColumns) _ few (true-both (all orderHolds (ownOrders sheet)) _ (own-holds cs kept) whole)
 
     pub same-sheet : writeSheet (ownOrders sheet) (ownNumbers sheet) work room ≡ given sheet
     unfolding writeSheet
     same-sheet = rw (own-orders, own-listed cs kept) listed-back
 
     pub same-apart : writeApart (ownKinds sheet) (ownPlans sheet) (ownCounts sheet) (ownNumbers sheet) work room ≡ given sheet
-    unfolding writeApart
     same-apart =
-        rw (
-          true-both (eqb (length (ownPlans sheet)) (planBytes * length (ownKinds sheet))) (eqb (length (ownCounts sheet)) (length (ownKinds sheet)))
-              (eq-eqb (length (ownPlans sheet)) (planBytes * length (ownKinds sheet)) (omega (arith, own-plans cs kept, length-map cs (λ (c : Column). c .kind))))
-              (eq-eqb (length (ownCounts sheet)) (length (ownKinds sheet)) (length-map cs (λ (c : Column). c .count) ∙ sym (length-map cs (λ (c : Column). c .kind)))),
-          own-apart cs kept,
-        )
-        same-sheet
+        let kinds = length-map cs (λ (c : Column). c .kind) in
+        apart-is (ownKinds sheet) (ownPlans sheet) (ownCounts sheet) (ownNumbers sheet) work room (omega (arith, own-plans cs kept, kinds))
+        (length-map cs (λ (c : Column). c .count) ∙ sym kinds)
+        ∙ ap (λ (os : List Order). writeSheet os (ownNumbers sheet) work room) (own-apart cs kept)
+        ∙ same-sheet

@@ -1,19 +1,25 @@
--- What the demands suppose can be met: the README's two columns are within the limits, and the empty sheet passes. Assumes nothing.
+-- What the demands suppose can be met: the README's two columns are within the limits, the empty sheet passes, and a sheet's own orders can be lent.
+-- Assumes nothing.
 use Prim.Native.Nat.{ℕ, _<_}
-use mathlib.Core.Path.{_≡_, refl}
+use mathlib.Core.Path.{_≡_, refl, ap}
 use mathlib.Core.Bool.{true}
-use mathlib.Core.List.{List, [], _∷_}
+use mathlib.Core.List.{List, [], _∷_, map}
 use native.Mathlib.Omega.{arith}
 use lib.Dec.{ltb}
 use lib.ListN.{replicate}
 use borrow.Author.Tests.{ltb-true}
 use Rattle.meaning.specs.Limits.{numberLimit}
 use Rattle.meaning.specs.Lists.{all}
+use Rattle.meaning.specs.Operations.{Order as OrderMeant}
 use Rattle.meaning.specs.Places.{Below}
+use Rattle.meaning.specs.Sheet.{Column, columnsOf}
 use Rattle.meaning.proofs.Bounds.{below-nil, below-cons}
 use Rattle.meaning.proofs.Computed.{meaning}
 use Rattle.meaning.proofs.Tests.{both-true}
+use Rattle.orders.specs.Orders.{orderSays}
+use Rattle.orders.specs.declared.Order.{Order}
 use Rattle.demands.specs.Demands.{Passing, Within}
+use Rattle.demands.specs.Own.{orderFor, ownOrders}
 
 below-all : (m : ℕ) → 0 < m → (xs : List ℕ) → all (λ x. ltb x m) xs ≡ true → Below m xs
 unfolding all
@@ -40,3 +46,14 @@ within-some =
 pub passing-some : Passing (1 ∷ 0 ∷ [])
 unfolding meaning
 passing-some = record { bytes = below-all 256 (omega arith) (1 ∷ 0 ∷ []) refl; passes = ([], refl) }
+
+-- orders that `orders::write` takes, and that say what the sheet's own say
+pub own-list : (sheet : List ℕ) → (orders : List Order) × (map orderSays orders ≡ ownOrders sheet)
+own-list sheet = (map asOrder (columnsOf sheet), says (columnsOf sheet))
+  where
+    asOrder : Column → Order
+    asOrder c = record { kind = c .kind; plan = c .plan; count = c .count }
+
+    says : (cs : List Column) → map orderSays (map asOrder cs) ≡ map orderFor cs
+    says [] = refl
+    says (c ∷ cs) = ap (λ (os : List OrderMeant). orderFor c ∷ os) (says cs)
