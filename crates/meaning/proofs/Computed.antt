@@ -5,17 +5,44 @@ use Rattle.meaning.specs.Bytes.{bytesOf, numberOf, word, wordAt}
 use Rattle.meaning.specs.Codes.{isCode, codeOf, readCode, lookCode}
 use Rattle.meaning.specs.Elias.{gammaBits, deltaBits, writeGamma, writeDelta, gammaIn, gammaWord, restIn, deltaWord, unitElias, doneElias}
 use Rattle.meaning.specs.DataBytes.{byteLength, fewest, dataBytes, dataIn}
-use Rattle.meaning.specs.G8IU.{fits, blocksFrom, blocks, bitsLow, numberLow, endBits, blockControl, block, writeG8IU, lengthsBy, blockLengths, blockIn, unitG8IU, joinsG8IU}
+use Rattle.meaning.specs.G8IU.{fits, blocksFrom, blocks, bitsLow, numberLow, endBits, blockControl, block, writeG8IU}
+use Rattle.meaning.specs.G8IU.{lengthsBy, blockLengths, blockIn, unitG8IU, joinsG8IU}
 use Rattle.meaning.specs.Groups.{fours, groupCount, controlOf, lengthsIn, control, writeGroups, writeStream, groupIn, groupAt, unitGroups, unitStream}
 use Rattle.meaning.specs.Lists.{all, sum, largest, joined, neighbours, rises, differ}
-use Rattle.meaning.specs.Operations.{listedBy, ordersHold, writeListed, writeSheet, ordersOf, writeApart, check, column, readSheet, lookSheet, fetch, openReader, callOver, call, numbersAt, boardHolds, boardVerdict, count, tallyOf, countBoard}
+use Rattle.meaning.specs.Operations.{listedBy, ordersHold, writeListed, writeSheet, ordersOf, writeApart}
+use Rattle.meaning.specs.Operations.{check, column, readSheet, lookSheet, fetch, openReader, callOver, call, numbersAt}
+use Rattle.meaning.specs.Operations.{boardHolds, boardVerdict, count, tallyOf, countBoard}
 use Rattle.meaning.specs.Plan.{planSize, planAt, planOf, good, wellFormed, passes, judgePlan, judge, defaultPlan, planUsed, worstPlan, worstSize}
-use Rattle.meaning.specs.Sheet.{ofKind, entryBytes, assemble, sheetBytes, worstSheet, columnsIn, columnsOf, isSheet, tableHolds, sound, readColumn, checkColumn, largestCount}
-use Rattle.meaning.specs.Stages.{leastOf, least, lessBefore, sumsFrom, valuesAfter, lengthsAfter, runValues, runLengths, unroll, write, small, raised, summed, unrolled, runHeader, read, within, total, seek, look}
-use Rattle.meaning.specs.Texts.{text, decimalIn, digits, line, counting, refusedOr, kindText, unfilled, columnLine, numberLine, columnLines, listingLines, listingText, boardLines, boardText}
+use Rattle.meaning.specs.Sheet.{ofKind, entryBytes, assemble, sheetBytes, worstSheet}
+use Rattle.meaning.specs.Sheet.{columnsIn, columnsOf, isSheet, tableHolds, sound, readColumn, checkColumn, largestCount}
+use Rattle.meaning.specs.Stages.{leastOf, least, lessBefore, sumsFrom, valuesAfter, lengthsAfter, runValues, runLengths, unroll, write}
+use Rattle.meaning.specs.Stages.{small, raised, summed, unrolled, runHeader, read, within, total, seek, look}
+use Rattle.meaning.specs.Texts.{text, decimalIn, digits, line, counting, refusedOr, kindText, unfilled}
+use Rattle.meaning.specs.Texts.{columnLine, numberLine, columnLines, listingLines, listingText, boardLines, boardText}
 use Rattle.meaning.specs.Units.{readFrom, readUnits, lookFrom, lookUnits}
 use Rattle.meaning.specs.VByte.{sevens, vbyte, laterIn, vbyteIn, unitVByte}
 
 unfoldable pub meaning : ℕ
-unfolding bitsHigh bitsOf numberHigh byteOf packIn pack zerosFirst digitsIn bitLength bytesOf numberOf word wordAt isCode codeOf readCode lookCode gammaBits deltaBits writeGamma writeDelta gammaIn gammaWord restIn deltaWord unitElias doneElias byteLength fewest dataBytes dataIn fits blocksFrom blocks bitsLow numberLow endBits blockControl block writeG8IU lengthsBy blockLengths blockIn unitG8IU joinsG8IU fours groupCount controlOf lengthsIn control writeGroups writeStream groupIn groupAt unitGroups unitStream all sum largest joined neighbours rises differ listedBy ordersHold writeListed writeSheet ordersOf writeApart check column readSheet lookSheet fetch openReader callOver call numbersAt boardHolds boardVerdict count tallyOf countBoard planSize planAt planOf good wellFormed passes judgePlan judge defaultPlan planUsed worstPlan worstSize ofKind entryBytes sheetBytes worstSheet columnsIn columnsOf isSheet tableHolds sound readColumn largestCount leastOf least lessBefore sumsFrom valuesAfter lengthsAfter runValues runLengths unroll write small raised summed unrolled runHeader read within total seek look text decimalIn digits line counting refusedOr kindText unfilled columnLine numberLine columnLines listingLines listingText boardLines boardText readFrom readUnits lookFrom lookUnits sevens vbyte laterIn vbyteIn unitVByte assemble checkColumn
+unfolding
+    bitsHigh bitsOf numberHigh byteOf packIn pack zerosFirst digitsIn bitLength
+    bytesOf numberOf word wordAt
+    isCode codeOf readCode lookCode
+    gammaBits deltaBits writeGamma writeDelta gammaIn gammaWord restIn deltaWord unitElias doneElias
+    byteLength fewest dataBytes dataIn
+    fits blocksFrom blocks bitsLow numberLow endBits blockControl block writeG8IU
+    lengthsBy blockLengths blockIn unitG8IU joinsG8IU
+    fours groupCount controlOf lengthsIn control writeGroups writeStream groupIn groupAt unitGroups unitStream
+    all sum largest joined neighbours rises differ
+    listedBy ordersHold writeListed writeSheet ordersOf writeApart
+    check column readSheet lookSheet fetch openReader callOver call numbersAt
+    boardHolds boardVerdict count tallyOf countBoard
+    planSize planAt planOf good wellFormed passes judgePlan judge defaultPlan planUsed worstPlan worstSize
+    ofKind entryBytes assemble sheetBytes worstSheet
+    columnsIn columnsOf isSheet tableHolds sound readColumn checkColumn largestCount
+    leastOf least lessBefore sumsFrom valuesAfter lengthsAfter runValues runLengths unroll write
+    small raised summed unrolled runHeader read within total seek look
+    text decimalIn digits line counting refusedOr kindText unfilled
+    columnLine numberLine columnLines listingLines listingText boardLines boardText
+    readFrom readUnits lookFrom lookUnits
+    sevens vbyte laterIn vbyteIn unitVByte
 meaning = 0

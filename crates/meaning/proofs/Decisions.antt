@@ -11,6 +11,10 @@ use Rattle.meaning.specs.Operations.{writeApart, check, readSheet, lookS
 use Rattle.meaning.specs.Texts.{text, digits, allWork, listingText, boardText}
 use Rattle.meaning.proofs.Computed.{meaning}
 
+-- an entry whose plan is VByte
+abbrev entry : ℕ → ℕ → ℕ → List ℕ
+entry kind count size = kind ∷ 1 ∷ replicate 14 0 ++ (word count ++ word size)
+
 -- 80 00: the last byte is not 0 unless alone
 vbyte-last-zero : read (code 1) (0x80 ∷ 0x00 ∷ []) 1 ≡ refused 9
 unfolding meaning
@@ -22,22 +26,22 @@ unfolding meaning
 vbyte-fifth = refl
 
 -- ending 01 02: the reference is not the least
-reference-not-least : read (planOf (16 ∷ 1 ∷ 0 ∷ 0 ∷ 0 ∷ 0 ∷ 0 ∷ 0 ∷ 0 ∷ 0 ∷ 0 ∷ 0 ∷ 0 ∷ 0 ∷ 0 ∷ [])) (0xe8 ∷ 0x03 ∷ 0 ∷ 0 ∷ 1 ∷ 2 ∷ []) 2 ≡ refused 9
+reference-not-least : read (planOf (16 ∷ 1 ∷ replicate 13 0)) (0xe8 ∷ 0x03 ∷ 0 ∷ 0 ∷ 1 ∷ 2 ∷ []) 2 ≡ refused 9
 unfolding meaning
 reference-not-least = refl
 
 -- 16 16 16 1 is well formed
-four-deep : judge 0 (16 ∷ 16 ∷ 16 ∷ 1 ∷ 0 ∷ 0 ∷ 0 ∷ 0 ∷ 0 ∷ 0 ∷ 0 ∷ 0 ∷ 0 ∷ 0 ∷ 0 ∷ []) ≡ given tt
+four-deep : judge 0 (16 ∷ 16 ∷ 16 ∷ 1 ∷ replicate 11 0) ≡ given tt
 unfolding meaning
 four-deep = refl
 
 -- 16 16 16 16 is 3
-five-deep : judge 0 (16 ∷ 16 ∷ 16 ∷ 16 ∷ 0 ∷ 0 ∷ 0 ∷ 0 ∷ 0 ∷ 0 ∷ 0 ∷ 0 ∷ 0 ∷ 0 ∷ 0 ∷ []) ≡ refused 3
+five-deep : judge 0 (16 ∷ 16 ∷ 16 ∷ 16 ∷ replicate 11 0) ≡ refused 3
 unfolding meaning
 five-deep = refl
 
 -- 17 1 under kind 0 is 4
-differences-of-any : judge 0 (17 ∷ 1 ∷ 0 ∷ 0 ∷ 0 ∷ 0 ∷ 0 ∷ 0 ∷ 0 ∷ 0 ∷ 0 ∷ 0 ∷ 0 ∷ 0 ∷ 0 ∷ []) ≡ refused 4
+differences-of-any : judge 0 (17 ∷ 1 ∷ replicate 13 0) ≡ refused 4
 unfolding meaning
 differences-of-any = refl
 
@@ -52,51 +56,52 @@ unfolding meaning
 d1-zeros = refl
 
 -- in an order they are 17 1 for kind 1
-d1-order : writeApart (1 ∷ []) (replicate 15 0) (3 ∷ []) (5 ∷ 5 ∷ 133 ∷ []) 21 30 ≡ given (1 ∷ 1 ∷ 1 ∷ 17 ∷ 1 ∷ 0 ∷ 0 ∷ 0 ∷ 0 ∷ 0 ∷ 0 ∷ 0 ∷ 0 ∷ 0 ∷ 0 ∷ 0 ∷ 0 ∷ 0 ∷ 3 ∷ 0 ∷ 0 ∷ 0 ∷ 4 ∷ 0 ∷ 0 ∷ 0 ∷ 5 ∷ 0 ∷ 128 ∷ 1 ∷ [])
+d1-order : writeApart (1 ∷ []) (replicate 15 0) (3 ∷ []) (5 ∷ 5 ∷ 133 ∷ []) 21 30
+    ≡ given (1 ∷ 1 ∷ 1 ∷ 17 ∷ 1 ∷ (replicate 13 0 ++ (3 ∷ 0 ∷ 0 ∷ 0 ∷ 4 ∷ 0 ∷ 0 ∷ 0 ∷ 5 ∷ 0 ∷ 128 ∷ 1 ∷ [])))
 unfolding meaning
 d1-order = refl
 
 -- a plan of another column refuses before 5
-d2-all-plans : fetch (1 ∷ 2 ∷ 0 ∷ 1 ∷ 0 ∷ 0 ∷ 0 ∷ 0 ∷ 0 ∷ 0 ∷ 0 ∷ 0 ∷ 0 ∷ 0 ∷ 0 ∷ 0 ∷ 0 ∷ 0 ∷ 0 ∷ 0 ∷ 0 ∷ 0 ∷ 0 ∷ 0 ∷ 0 ∷ 0 ∷ 0 ∷ 9 ∷ 0 ∷ 0 ∷ 0 ∷ 0 ∷ 0 ∷ 0 ∷ 0 ∷ 0 ∷ 0 ∷ 0 ∷ 0 ∷ 0 ∷ 0 ∷ 0 ∷ 0 ∷ 0 ∷ 0 ∷ 0 ∷ 0 ∷ 0 ∷ 0 ∷ 0 ∷ []) 7 ≡ refused 3
+d2-all-plans : fetch (1 ∷ 2 ∷ entry 0 0 0 ++ (0 ∷ 9 ∷ replicate 22 0)) 7 ≡ refused 3
 unfolding meaning
 d2-all-plans = refl
 
 -- 17 9 under kind 0 is 3
-d3-malformed-first : judge 0 (17 ∷ 9 ∷ 0 ∷ 0 ∷ 0 ∷ 0 ∷ 0 ∷ 0 ∷ 0 ∷ 0 ∷ 0 ∷ 0 ∷ 0 ∷ 0 ∷ 0 ∷ []) ≡ refused 3
+d3-malformed-first : judge 0 (17 ∷ 9 ∷ replicate 13 0) ≡ refused 3
 unfolding meaning
 d3-malformed-first = refl
 
 -- asked alone, a kind above 1 is 11 before 3
-d3-kind-first : judge 2 (9 ∷ 0 ∷ 0 ∷ 0 ∷ 0 ∷ 0 ∷ 0 ∷ 0 ∷ 0 ∷ 0 ∷ 0 ∷ 0 ∷ 0 ∷ 0 ∷ 0 ∷ []) ≡ refused 11
+d3-kind-first : judge 2 (9 ∷ replicate 14 0) ≡ refused 11
 unfolding meaning
 d3-kind-first = refl
 
 -- asked alone, 3 before 11
-worst-malformed-first : worstSize (9 ∷ 0 ∷ 0 ∷ 0 ∷ 0 ∷ 0 ∷ 0 ∷ 0 ∷ 0 ∷ 0 ∷ 0 ∷ 0 ∷ 0 ∷ 0 ∷ 0 ∷ []) 1025 ≡ refused 3
+worst-malformed-first : worstSize (9 ∷ replicate 14 0) 1025 ≡ refused 3
 unfolding meaning
 worst-malformed-first = refl
 
 -- n is at most 1,024
-worst-most : worstSize (18 ∷ 4 ∷ 5 ∷ 0 ∷ 0 ∷ 0 ∷ 0 ∷ 0 ∷ 0 ∷ 0 ∷ 0 ∷ 0 ∷ 0 ∷ 0 ∷ 0 ∷ []) 1024 ≡ given 12680
+worst-most : worstSize (18 ∷ 4 ∷ 5 ∷ replicate 12 0) 1024 ≡ given 12680
 unfolding meaning
 worst-most = refl
 
-worst-above : worstSize (18 ∷ 4 ∷ 5 ∷ 0 ∷ 0 ∷ 0 ∷ 0 ∷ 0 ∷ 0 ∷ 0 ∷ 0 ∷ 0 ∷ 0 ∷ 0 ∷ 0 ∷ []) 1025 ≡ refused 11
+worst-above : worstSize (18 ∷ 4 ∷ 5 ∷ replicate 12 0) 1025 ≡ refused 11
 unfolding meaning
 worst-above = refl
 
 -- 7 compares with the exact size: 28 bytes fit, 27 do not
-d4-exact : writeApart (0 ∷ []) (1 ∷ 0 ∷ 0 ∷ 0 ∷ 0 ∷ 0 ∷ 0 ∷ 0 ∷ 0 ∷ 0 ∷ 0 ∷ 0 ∷ 0 ∷ 0 ∷ 0 ∷ []) (2 ∷ []) (1 ∷ 2 ∷ []) 14 27 ≡ refused 7
+d4-exact : writeApart (0 ∷ []) (1 ∷ replicate 14 0) (2 ∷ []) (1 ∷ 2 ∷ []) 14 27 ≡ refused 7
 unfolding meaning
 d4-exact = refl
 
 -- plan 18 16 1 1 of an empty list
-d5-empty-runs : write (planOf (18 ∷ 16 ∷ 1 ∷ 1 ∷ 0 ∷ 0 ∷ 0 ∷ 0 ∷ 0 ∷ 0 ∷ 0 ∷ 0 ∷ 0 ∷ 0 ∷ 0 ∷ [])) [] ≡ 0 ∷ 0 ∷ 0 ∷ 0 ∷ 4 ∷ 0 ∷ 0 ∷ 0 ∷ 0 ∷ 0 ∷ 0 ∷ 0 ∷ []
+d5-empty-runs : write (planOf (18 ∷ 16 ∷ 1 ∷ 1 ∷ replicate 11 0)) [] ≡ 0 ∷ 0 ∷ 0 ∷ 0 ∷ 4 ∷ 0 ∷ 0 ∷ 0 ∷ 0 ∷ 0 ∷ 0 ∷ 0 ∷ []
 unfolding meaning
 d5-empty-runs = refl
 
 -- a nonzero reference of an empty list
-d5-empty-reference : read (planOf (16 ∷ 1 ∷ 0 ∷ 0 ∷ 0 ∷ 0 ∷ 0 ∷ 0 ∷ 0 ∷ 0 ∷ 0 ∷ 0 ∷ 0 ∷ 0 ∷ 0 ∷ [])) (1 ∷ 0 ∷ 0 ∷ 0 ∷ []) 0 ≡ refused 9
+d5-empty-reference : read (planOf (16 ∷ 1 ∷ replicate 13 0)) (1 ∷ 0 ∷ 0 ∷ 0 ∷ []) 0 ≡ refused 9
 unfolding meaning
 d5-empty-reference = refl
 
@@ -126,41 +131,42 @@ unfolding meaning
 d7-room-looked-past = refl
 
 -- reference adds only at the place asked
-d8-place-1 : look (planOf (16 ∷ 1 ∷ 0 ∷ 0 ∷ 0 ∷ 0 ∷ 0 ∷ 0 ∷ 0 ∷ 0 ∷ 0 ∷ 0 ∷ 0 ∷ 0 ∷ 0 ∷ [])) (0xff ∷ 0xff ∷ 0xff ∷ 0xff ∷ 1 ∷ 0 ∷ []) 2 1 ≡ given 4294967295
+d8-place-1 : look (planOf (16 ∷ 1 ∷ replicate 13 0)) (0xff ∷ 0xff ∷ 0xff ∷ 0xff ∷ 1 ∷ 0 ∷ []) 2 1 ≡ given 4294967295
 unfolding meaning
 d8-place-1 = refl
 
-d8-place-0 : look (planOf (16 ∷ 1 ∷ 0 ∷ 0 ∷ 0 ∷ 0 ∷ 0 ∷ 0 ∷ 0 ∷ 0 ∷ 0 ∷ 0 ∷ 0 ∷ 0 ∷ 0 ∷ [])) (0xff ∷ 0xff ∷ 0xff ∷ 0xff ∷ 1 ∷ 0 ∷ []) 2 0 ≡ refused 9
+d8-place-0 : look (planOf (16 ∷ 1 ∷ replicate 13 0)) (0xff ∷ 0xff ∷ 0xff ∷ 0xff ∷ 1 ∷ 0 ∷ []) 2 0 ≡ refused 9
 unfolding meaning
 d8-place-0 = refl
 
 -- a list of kind 1 that falls is a fault, in column 1
-d9-fall : check (1 ∷ 2 ∷ 0 ∷ 1 ∷ 0 ∷ 0 ∷ 0 ∷ 0 ∷ 0 ∷ 0 ∷ 0 ∷ 0 ∷ 0 ∷ 0 ∷ 0 ∷ 0 ∷ 0 ∷ 0 ∷ 2 ∷ 0 ∷ 0 ∷ 0 ∷ 2 ∷ 0 ∷ 0 ∷ 0 ∷ 1 ∷ 1 ∷ 0 ∷ 0 ∷ 0 ∷ 0 ∷ 0 ∷ 0 ∷ 0 ∷ 0 ∷ 0 ∷ 0 ∷ 0 ∷ 0 ∷ 0 ∷ 0 ∷ 2 ∷ 0 ∷ 0 ∷ 0 ∷ 2 ∷ 0 ∷ 0 ∷ 0 ∷ 2 ∷ 1 ∷ 2 ∷ 1 ∷ []) 16 ≡ blamed 9 1
+d9-fall : check (1 ∷ 2 ∷ entry 0 2 2 ++ (entry 1 2 2 ++ (2 ∷ 1 ∷ 2 ∷ 1 ∷ []))) 16 ≡ blamed 9 1
 unfolding meaning
 d9-fall = refl
 
 -- after a refused opening every call answers 1
-d10-refused-opening : call (1 ∷ 1 ∷ 0 ∷ 1 ∷ 0 ∷ 0 ∷ 0 ∷ 0 ∷ 0 ∷ 0 ∷ 0 ∷ 0 ∷ 0 ∷ 0 ∷ 0 ∷ 0 ∷ 0 ∷ 0 ∷ 1 ∷ 0 ∷ 0 ∷ 0 ∷ 1 ∷ 0 ∷ 0 ∷ 0 ∷ 7 ∷ []) 1 3 ≡ refused 1
+d10-refused-opening : call (1 ∷ 1 ∷ entry 0 1 1 ++ (7 ∷ [])) 1 3 ≡ refused 1
 unfolding meaning
 d10-refused-opening = refl
 
 -- after a refused call that refusal again
-d10-again : call (1 ∷ 1 ∷ 0 ∷ 1 ∷ 0 ∷ 0 ∷ 0 ∷ 0 ∷ 0 ∷ 0 ∷ 0 ∷ 0 ∷ 0 ∷ 0 ∷ 0 ∷ 0 ∷ 0 ∷ 0 ∷ 1 ∷ 0 ∷ 0 ∷ 0 ∷ 1 ∷ 0 ∷ 0 ∷ 0 ∷ 7 ∷ []) 0 3 ≡ refused 6
+d10-again : call (1 ∷ 1 ∷ entry 0 1 1 ++ (7 ∷ [])) 0 3 ≡ refused 6
 unfolding meaning
 d10-again = refl
 
 -- counts of 0 pass with zero tallies
-d11-empty-board : countBoard (1 ∷ 2 ∷ 1 ∷ 1 ∷ 0 ∷ 0 ∷ 0 ∷ 0 ∷ 0 ∷ 0 ∷ 0 ∷ 0 ∷ 0 ∷ 0 ∷ 0 ∷ 0 ∷ 0 ∷ 0 ∷ 0 ∷ 0 ∷ 0 ∷ 0 ∷ 0 ∷ 0 ∷ 0 ∷ 0 ∷ 0 ∷ 1 ∷ 0 ∷ 0 ∷ 0 ∷ 0 ∷ 0 ∷ 0 ∷ 0 ∷ 0 ∷ 0 ∷ 0 ∷ 0 ∷ 0 ∷ 0 ∷ 0 ∷ 0 ∷ 0 ∷ 0 ∷ 0 ∷ 0 ∷ 0 ∷ 0 ∷ 0 ∷ []) 0 ≡ (passed, noTally)
+d11-empty-board : countBoard (1 ∷ 2 ∷ entry 1 0 0 ++ entry 0 0 0) 0 ≡ (passed, noTally)
 unfolding meaning
 d11-empty-board = refl
 
 -- 0 is passed, 1 to 255 failed, 256 never ended
-d11-endings : countBoard (1 ∷ 2 ∷ 1 ∷ 1 ∷ 0 ∷ 0 ∷ 0 ∷ 0 ∷ 0 ∷ 0 ∷ 0 ∷ 0 ∷ 0 ∷ 0 ∷ 0 ∷ 0 ∷ 0 ∷ 0 ∷ 4 ∷ 0 ∷ 0 ∷ 0 ∷ 4 ∷ 0 ∷ 0 ∷ 0 ∷ 0 ∷ 1 ∷ 0 ∷ 0 ∷ 0 ∷ 0 ∷ 0 ∷ 0 ∷ 0 ∷ 0 ∷ 0 ∷ 0 ∷ 0 ∷ 0 ∷ 0 ∷ 0 ∷ 4 ∷ 0 ∷ 0 ∷ 0 ∷ 5 ∷ 0 ∷ 0 ∷ 0 ∷ 1 ∷ 2 ∷ 3 ∷ 4 ∷ 0 ∷ 1 ∷ 128 ∷ 2 ∷ 0 ∷ []) 32 ≡ (passed, record { passed = 2; failed = 1; unended = 1 })
+d11-endings : countBoard (1 ∷ 2 ∷ entry 1 4 4 ++ (entry 0 4 5 ++ (1 ∷ 2 ∷ 3 ∷ 4 ∷ 0 ∷ 1 ∷ 128 ∷ 2 ∷ 0 ∷ []))) 32
+    ≡ (passed, record { passed = 2; failed = 1; unended = 1 })
 unfolding meaning
 d11-endings = refl
 
 -- equal job numbers are 12
-d11-equal-jobs : boardVerdict (1 ∷ 2 ∷ 1 ∷ 1 ∷ 0 ∷ 0 ∷ 0 ∷ 0 ∷ 0 ∷ 0 ∷ 0 ∷ 0 ∷ 0 ∷ 0 ∷ 0 ∷ 0 ∷ 0 ∷ 0 ∷ 2 ∷ 0 ∷ 0 ∷ 0 ∷ 2 ∷ 0 ∷ 0 ∷ 0 ∷ 0 ∷ 1 ∷ 0 ∷ 0 ∷ 0 ∷ 0 ∷ 0 ∷ 0 ∷ 0 ∷ 0 ∷ 0 ∷ 0 ∷ 0 ∷ 0 ∷ 0 ∷ 0 ∷ 2 ∷ 0 ∷ 0 ∷ 0 ∷ 2 ∷ 0 ∷ 0 ∷ 0 ∷ 3 ∷ 3 ∷ 0 ∷ 0 ∷ []) 16 ≡ blamed 12 0
+d11-equal-jobs : boardVerdict (1 ∷ 2 ∷ entry 1 2 2 ++ (entry 0 2 2 ++ (3 ∷ 3 ∷ 0 ∷ 0 ∷ []))) 16 ≡ blamed 12 0
 unfolding meaning
 d11-equal-jobs = refl
 
@@ -168,10 +174,6 @@ d11-equal-jobs = refl
 d12-no-columns : listingText (1 ∷ 0 ∷ []) ≡ text "columns 0\nend\n"
 unfolding meaning
 d12-no-columns = refl
-
--- an entry whose plan is VByte
-abbrev entry : ℕ → ℕ → ℕ → List ℕ
-entry kind count size = kind ∷ 1 ∷ replicate 14 0 ++ (word count ++ word size)
 
 -- one end after the last column
 d12-two : listingText (1 ∷ 2 ∷ entry 1 1 1 ++ (entry 0 1 2 ++ (7 ∷ 128 ∷ 2 ∷ [])))
@@ -211,25 +213,25 @@ unfolding meaning
 d12-digits = refl
 
 -- 8 before 7 before 9
-d13-work-first : readSheet (1 ∷ 1 ∷ 0 ∷ 1 ∷ 0 ∷ 0 ∷ 0 ∷ 0 ∷ 0 ∷ 0 ∷ 0 ∷ 0 ∷ 0 ∷ 0 ∷ 0 ∷ 0 ∷ 0 ∷ 0 ∷ 1 ∷ 0 ∷ 0 ∷ 0 ∷ 1 ∷ 0 ∷ 0 ∷ 0 ∷ 128 ∷ []) 0 6 0 ≡ refused 8
+d13-work-first : readSheet (1 ∷ 1 ∷ entry 0 1 1 ++ (128 ∷ [])) 0 6 0 ≡ refused 8
 unfolding meaning
 d13-work-first = refl
 
-d13-room-next : readSheet (1 ∷ 1 ∷ 0 ∷ 1 ∷ 0 ∷ 0 ∷ 0 ∷ 0 ∷ 0 ∷ 0 ∷ 0 ∷ 0 ∷ 0 ∷ 0 ∷ 0 ∷ 0 ∷ 0 ∷ 0 ∷ 1 ∷ 0 ∷ 0 ∷ 0 ∷ 1 ∷ 0 ∷ 0 ∷ 0 ∷ 128 ∷ []) 0 7 0 ≡ refused 7
+d13-room-next : readSheet (1 ∷ 1 ∷ entry 0 1 1 ++ (128 ∷ [])) 0 7 0 ≡ refused 7
 unfolding meaning
 d13-room-next = refl
 
-d13-fault-last : readSheet (1 ∷ 1 ∷ 0 ∷ 1 ∷ 0 ∷ 0 ∷ 0 ∷ 0 ∷ 0 ∷ 0 ∷ 0 ∷ 0 ∷ 0 ∷ 0 ∷ 0 ∷ 0 ∷ 0 ∷ 0 ∷ 1 ∷ 0 ∷ 0 ∷ 0 ∷ 1 ∷ 0 ∷ 0 ∷ 0 ∷ 128 ∷ []) 0 7 1 ≡ refused 9
+d13-fault-last : readSheet (1 ∷ 1 ∷ entry 0 1 1 ++ (128 ∷ [])) 0 7 1 ≡ refused 9
 unfolding meaning
 d13-fault-last = refl
 
 -- place 1 of 1 is 6
-no-place : lookSheet (1 ∷ 1 ∷ 0 ∷ 1 ∷ 0 ∷ 0 ∷ 0 ∷ 0 ∷ 0 ∷ 0 ∷ 0 ∷ 0 ∷ 0 ∷ 0 ∷ 0 ∷ 0 ∷ 0 ∷ 0 ∷ 1 ∷ 0 ∷ 0 ∷ 0 ∷ 1 ∷ 0 ∷ 0 ∷ 0 ∷ 7 ∷ []) 0 1 ≡ refused 6
+no-place : lookSheet (1 ∷ 1 ∷ entry 0 1 1 ++ (7 ∷ [])) 0 1 ≡ refused 6
 unfolding meaning
 no-place = refl
 
 -- a count above 1,024 is 2
-count-above : check (1 ∷ 1 ∷ 0 ∷ 1 ∷ 0 ∷ 0 ∷ 0 ∷ 0 ∷ 0 ∷ 0 ∷ 0 ∷ 0 ∷ 0 ∷ 0 ∷ 0 ∷ 0 ∷ 0 ∷ 0 ∷ 1 ∷ 4 ∷ 0 ∷ 0 ∷ 0 ∷ 0 ∷ 0 ∷ 0 ∷ []) 0 ≡ blamed 2 0
+count-above : check (1 ∷ 1 ∷ entry 0 1025 0) 0 ≡ blamed 2 0
 unfolding meaning
 count-above = refl
 
@@ -244,7 +246,7 @@ unfolding meaning
 falls-10 = refl
 
 -- counts not summing to the joined slice, before the plan
-orders-11 : writeApart (0 ∷ []) (9 ∷ 0 ∷ 0 ∷ 0 ∷ 0 ∷ 0 ∷ 0 ∷ 0 ∷ 0 ∷ 0 ∷ 0 ∷ 0 ∷ 0 ∷ 0 ∷ 0 ∷ []) (2 ∷ []) (1 ∷ []) 14 99 ≡ refused 11
+orders-11 : writeApart (0 ∷ []) (9 ∷ replicate 14 0) (2 ∷ []) (1 ∷ []) 14 99 ≡ refused 11
 unfolding meaning
 orders-11 = refl
 

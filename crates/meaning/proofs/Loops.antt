@@ -61,6 +61,7 @@ module _ {P : Type 0} (unit : ℕ → P → Answer (P × List ℕ)) (joins : Lis
         let c = so .counted in
         let room : from + i + length (u .1) ≤ length w = omega (arith, so .long) in
         let m : n - i - length (u .1) ≡ n - (i + length (u .1)) = omega arith in
+        let after = readUnits unit joins done (n - (i + length (u .1))) (u .1) (u .0) in
         record {
           sofar = so .sofar ++ u .1;
           counted = length-append (so .sofar) (u .1) ∙ ap (λ (k : ℕ). k + length (u .1)) c;
@@ -68,7 +69,7 @@ module _ {P : Type 0} (unit : ℕ → P → Answer (P × List ℕ)) (joins : Lis
           here = rw ew (part-more (u .1) w from i room) ∙ ap (λ (l : List ℕ). l ++ u .1) (so .here);
           kept = rw ew (take-sets (u .1) w from (from + i) (omega arith)) ∙ so .kept;
           long = rw ew (length-sets w (from + i) (u .1)) ∙ so .long;
-          rest = so .rest ∙ rw (read-next unit joins done good (n - i) before p u (omega arith) e j, m) (join-join (so .sofar) (u .1) (readUnits unit joins done (n - (i + length (u .1))) (u .1) (u .0)));
+          rest = so .rest ∙ rw (read-next unit joins done good (n - i) before p u (omega arith) e j, m) (join-join (so .sofar) (u .1) after);
         }
 
     pub read-refuse : (z : ℕ) → i < n → unit (n - i) p ≡ refused z → readUnits unit joins done n [] p₀ ≡ refused z

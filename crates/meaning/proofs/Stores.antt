@@ -26,7 +26,8 @@ module _ {A : Type 0} where
   -- one store before a run of stores
   pub set-sets : (ws l : List A) (i j : ℕ) (v : A) → i < j → set (sets l j ws) i v ≡ sets (set l i v) j ws
   set-sets [] l i j v h = refl
-  set-sets (w ∷ ws) l i j v h = set-sets ws (set l j w) i (suc j) v (omega arith) ∙ ap (λ (m : List A). sets m (suc j) ws) (set-comm l j i w v (λ e. omega arith))
+  set-sets (w ∷ ws) l i j v h =
+      set-sets ws (set l j w) i (suc j) v (omega arith) ∙ ap (λ (m : List A). sets m (suc j) ws) (set-comm l j i w v (λ e. omega arith))
 
   -- two runs of stores that do not meet
   pub sets-swap : (vs ws l : List A) (i j : ℕ) → i + length vs ≤ j → sets (sets l j ws) i vs ≡ sets (sets l i vs) j ws

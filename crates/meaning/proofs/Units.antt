@@ -23,7 +23,8 @@ abbrev pub join : List ℕ → Answer (List ℕ) → Answer (List ℕ)
 join xs r = bind r (λ ys. given (xs ++ ys))
 
 -- what a reading that goes on after a unit says: the unit's numbers, and the rest
-pub record Split {P : Type 0} (unit : ℕ → P → Answer (P × List ℕ)) (joins : List ℕ → List ℕ → Bool) (r : ℕ → ℕ → List ℕ → P → Answer (List ℕ)) (f n : ℕ) (before : List ℕ) (p : P) (xs : List ℕ) : Type 0 where
+pub record Split {P : Type 0} (unit : ℕ → P → Answer (P × List ℕ)) (joins : List ℕ → List ℕ → Bool)
+    (r : ℕ → ℕ → List ℕ → P → Answer (List ℕ)) (f n : ℕ) (before : List ℕ) (p : P) (xs : List ℕ) : Type 0 where
   pub u : P × List ℕ
   pub rest : List ℕ
   pub eu : unit (suc n) p ≡ given u
@@ -33,7 +34,8 @@ pub record Split {P : Type 0} (unit : ℕ → P → Answer (P × List ℕ)) (joi
 
 module _ {P : Type 0} (unit : ℕ → P → Answer (P × List ℕ)) (joins : List ℕ → List ℕ → Bool) (done : P → Bool) where
   -- a reading of one more number, taken apart
-  split : (f n : ℕ) (before : List ℕ) (p : P) (xs : List ℕ) → readFrom unit joins done (suc f) (suc n) before p ≡ given xs → Split unit joins (readFrom unit joins done) f n before p xs
+  split : (f n : ℕ) (before : List ℕ) (p : P) (xs : List ℕ) → readFrom unit joins done (suc f) (suc n) before p ≡ given xs
+      → Split unit joins (readFrom unit joins done) f n before p xs
   unfolding readFrom
   split f n before p xs e =
       let (u, eu, e₁) = bind-given (unit (suc n) p) _ xs e in
@@ -46,7 +48,8 @@ module _ {P : Type 0} (unit : ℕ → P → Answer (P × List ℕ)) (joins : Lis
 
   module _ (good : Good unit) where
     -- any count that is large enough reads the same
-    read-enough : (f g left : ℕ) (before : List ℕ) (p : P) → left ≤ f → left ≤ g → readFrom unit joins done f left before p ≡ readFrom unit joins done g left before p
+    read-enough : (f g left : ℕ) (before : List ℕ) (p : P) → left ≤ f → left ≤ g
+        → readFrom unit joins done f left before p ≡ readFrom unit joins done g left before p
     unfolding readFrom
     read-enough zero zero left before p hf hg = refl
     read-enough zero (suc g) zero before p hf hg = refl
@@ -133,7 +136,8 @@ module _ {P : Type 0} (unit : ℕ → P → Answer (P × List ℕ)) (good : Good
   look-next zero place p u h q t = absurd (omega arith)
   look-next (suc n) place p u h q t =
       let k = good .some (suc n) p u (omega arith) q in
-      rw (q, le-ltb _ _ t) (look-enough n (suc n - length (u .1)) (suc n - length (u .1)) (place - length (u .1)) (u .0) (omega arith) (omega arith) (omega arith))
+      rw (q, le-ltb _ _ t)
+      (look-enough n (suc n - length (u .1)) (suc n - length (u .1)) (place - length (u .1)) (u .0) (omega arith) (omega arith) (omega arith))
 
 -- ---- where reading gives a list, looking up gives its numbers
 module _ {P : Type 0} (unit : ℕ → P → Answer (P × List ℕ)) (joins : List ℕ → List ℕ → Bool) (done : P → Bool) where
@@ -162,7 +166,8 @@ module _ {P : Type 0} (unit : ℕ → P → Answer (P × List ℕ)) (joins : Lis
   look-from (suc f) (suc n) before p place xs e h =
       let s = split unit joins done f n before p xs e in
       let l = simp length-append at (ap length (s .is)) in
-      look-turn f (suc n) place p (s .u) (s .rest) (s .eu) (omega arith) (λ q hq. look-from f (suc n - length (s .u .1)) (s .u .1) (s .u .0) q (s .rest) (s .er) hq)
+      look-turn f (suc n) place p (s .u) (s .rest) (s .eu) (omega arith)
+      (λ q hq. look-from f (suc n - length (s .u .1)) (s .u .1) (s .u .0) q (s .rest) (s .er) hq)
       ∙ ap (λ (l : List ℕ). given (getD l place 0)) (s .is)
 
   -- law (c)
@@ -173,15 +178,17 @@ module _ {P : Type 0} (unit : ℕ → P → Answer (P × List ℕ)) (joins : Lis
 
 -- ---- the code as a whole: `At before p xs` says that the body holds exactly xs from the position p on, after a unit of the numbers `before`.
 -- A code shows four facts about one unit or none, and has both directions for whole bodies.
-pub record Whole {P : Type 0} (unit : ℕ → P → Answer (P × List ℕ)) (joins : List ℕ → List ℕ → Bool) (done : P → Bool) (At : List ℕ → P → List ℕ → Type 0) : Type 0 where
+pub record Whole {P : Type 0} (unit : ℕ → P → Answer (P × List ℕ)) (joins : List ℕ → List ℕ → Bool) (done : P → Bool)
+    (At : List ℕ → P → List ℕ → Type 0) : Type 0 where
   pub ends : (before : List ℕ) (p : P) → At before p [] → done p ≡ true
   pub heads : (before : List ℕ) (p : P) (x : ℕ) (xs : List ℕ) → At before p (x ∷ xs)
       → (u : P × List ℕ) × (unit (suc (length xs)) p ≡ given u) × (joins before (u .1) ≡ true) × ((zs : List ℕ) × (u .1 ++ zs ≡ x ∷ xs) × At (u .1) (u .0) zs)
   pub ended : (before : List ℕ) (p : P) → done p ≡ true → At before p []
-  pub headed : (n : ℕ) (before : List ℕ) (p : P) (u : P × List ℕ) (zs : List ℕ) → unit (suc n) p ≡ given u → joins before (u .1) ≡ true → length zs ≡ suc n - length (u .1)
-      → At (u .1) (u .0) zs → At before p (u .1 ++ zs)
+  pub headed : (n : ℕ) (before : List ℕ) (p : P) (u : P × List ℕ) (zs : List ℕ) → unit (suc n) p ≡ given u → joins before (u .1) ≡ true
+      → length zs ≡ suc n - length (u .1) → At (u .1) (u .0) zs → At before p (u .1 ++ zs)
 
-module _ {P : Type 0} (unit : ℕ → P → Answer (P × List ℕ)) (joins : List ℕ → List ℕ → Bool) (done : P → Bool) (good : Good unit) (At : List ℕ → P → List ℕ → Type 0) (whole : Whole unit joins done At) where
+module _ {P : Type 0} (unit : ℕ → P → Answer (P × List ℕ)) (joins : List ℕ → List ℕ → Bool) (done : P → Bool) (good : Good unit)
+    (At : List ℕ → P → List ℕ → Type 0) (whole : Whole unit joins done At) where
   written : (f : ℕ) (before : List ℕ) (p : P) (xs : List ℕ) → At before p xs → length xs ≤ f → readFrom unit joins done f (length xs) before p ≡ given xs
   unfolding readFrom
   written zero before p [] h k = rw (whole .ends before p h)
@@ -210,7 +217,9 @@ module _ {P : Type 0} (unit : ℕ → P → Answer (P × List ℕ)) (joins : Lis
   holds (suc f) (suc n) before p xs e =
       let s = split unit joins done f n before p xs e in
       let l = many-from unit joins done good f (suc n - length (s .u .1)) (s .u .1) (s .u .0) (s .rest) (s .er) in
-      subst (At before p) (s .is) (whole .headed n before p (s .u) (s .rest) (s .eu) (s .joined) l (holds f (suc n - length (s .u .1)) (s .u .1) (s .u .0) (s .rest) (s .er)))
+      subst (At before p) (s .is)
+      (whole .headed n before p (s .u) (s .rest) (s .eu) (s .joined) l
+      (holds f (suc n - length (s .u .1)) (s .u .1) (s .u .0) (s .rest) (s .er)))
 
   -- law (b): a body that reads as xs holds xs
   pub read-holds : (n : ℕ) (before : List ℕ) (p : P) (xs : List ℕ) → readUnits unit joins done n before p ≡ given xs → At before p xs
