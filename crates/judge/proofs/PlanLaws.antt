@@ -85,7 +85,8 @@ module _ (stages : ℕ) (bytes : List ℕ) (at : ℕ) where
   unfolding stageAt
   stage-known =
       let b = getD bytes at 0 in
-      known stages bytes at b (record { byte = at + 1 }) (stages - 1) refl (isCode b) (leb 1 stages && eqb b 16) (leb 1 stages && eqb b 17) (leb 1 stages && eqb b 18)
+      known stages bytes at b (record { byte = at + 1 }) (stages - 1) refl
+      (isCode b) (leb 1 stages && eqb b 16) (leb 1 stages && eqb b 17) (leb 1 stages && eqb b 18)
       (λ e. (e, code-inside bytes at e))
       (one-less stages _)
       (one-less stages _)

@@ -94,7 +94,8 @@ good-ends p m e z = an-end (good p) (planSize p) m e z
 -- ---- the worst size of a code
 pub worst-else : (k n : ℕ) → (k ≡ 1 → ⊥) → (k ≡ 2 → ⊥) → (k ≡ 3 → ⊥) → (k ≡ 4 → ⊥) → (k ≡ 5 → ⊥) → (43 * n + 7) / 8 ≡ codeOf k .worst n
 worst-else k n h₁ h₂ h₃ h₄ h₅ =
-    by-number (λ d. (43 * n + 7) / 8 ≡ d .worst n) k (λ e. absurd (h₁ e)) (λ e. absurd (h₂ e)) (λ e. absurd (h₃ e)) (λ e. absurd (h₄ e)) (λ e. absurd (h₅ e)) refl
+    by-number (λ d. (43 * n + 7) / 8 ≡ d .worst n) k
+    (λ e. absurd (h₁ e)) (λ e. absurd (h₂ e)) (λ e. absurd (h₃ e)) (λ e. absurd (h₄ e)) (λ e. absurd (h₅ e)) refl
 
 -- gamma has the largest
 code-most : (k n : ℕ) → n ≤ mostNumbers → codeOf k .worst n ≤ 8320
@@ -129,7 +130,9 @@ worst-within (suc l) bytes at n h =
     let b = getD bytes at 0 in
     let p = planAt l bytes (at + 1) in
     let q = planAt l bytes (at + 1 + planSize p) in
-    by-most p q n b (most (suc l)) (omega (arith, code-most b n h, code-within (suc l))) (omega (arith, worst-within l bytes (at + 1) n h, worst-within l bytes (at + 1 + planSize p) n h))
+    by-most p q n b (most (suc l))
+    (omega (arith, code-most b n h, code-within (suc l)))
+    (omega (arith, worst-within l bytes (at + 1) n h, worst-within l bytes (at + 1 + planSize p) n h))
     (isCode b) (leb 1 (suc l) && eqb b 16) (leb 1 (suc l) && eqb b 17) (leb 1 (suc l) && eqb b 18)
 
 most-of-three : (stages : ℕ) → stages ≤ mostStages → most stages ≤ 66616

@@ -16,19 +16,32 @@ Inv-loop plan i₀ i = all (eqb 0) (drop i₀ plan) ≡ all (eqb 0) (drop i plan
 abbrev μ-loop : tie.MeasureT-loop
 μ-loop plan i₀ i = length plan - i
 
-loop-holds : tie.Need-loop-holds Inv-loop μ-loop
+-- a point of the function, or what is asked there; `search` finds, by its type, the one that c came by
+abbrev At : (tie.InvT-loop → tie.MeasureT-loop → Type 0) → Type 0
+At point = point Inv-loop μ-loop
+
+loop-holds : At tie.Need-loop-holds
 loop-holds c = refl
 
-returns : tie.Need-returns Inv-loop μ-loop
+returns : At tie.Need-returns
 returns c =
-    blank-fail (now (c .before .before .before .before .args .plan)) (c .before .before .before .loop .i) _ (c .before .before .before .loop .inv) (c .before .before .loop-test .taken) (c .if1 .taken)
+    let turn : At tie.In-loop = search in
+    let head : At tie.At-loop = search in
+    let start : At tie.Start = search in
+    blank-fail (now (start .args .plan)) (head .loop .i) _ (head .loop .inv) (turn .loop-test .taken) (c .if1 .taken)
 
-loop-again : tie.Need-loop-again Inv-loop μ-loop
+loop-again : At tie.Need-loop-again
 loop-again c =
-    blank-turn (now (c .before .before .before .before .args .plan)) (c .before .before .before .loop .i) _ (c .before .before .before .loop .inv) (c .before .before .loop-test .taken) (c .if1 .left)
+    let turn : At tie.In-loop = search in
+    let head : At tie.At-loop = search in
+    let start : At tie.Start = search in
+    blank-turn (now (start .args .plan)) (head .loop .i) _ (head .loop .inv) (turn .loop-test .taken) (c .if1 .left)
 
-returns-2 : tie.Need-returns-2 Inv-loop μ-loop
-returns-2 c = blank-end (now (c .before .before .args .plan)) (c .before .loop .i) _ (c .before .loop .inv) (c .loop-test .left)
+returns-2 : At tie.Need-returns-2
+returns-2 c =
+    let head : At tie.At-loop = search in
+    let start : At tie.Start = search in
+    blank-end (now (start .args .plan)) (head .loop .i) _ (head .loop .inv) (c .loop-test .left)
 
 pub blank-from-spec : {M : Type 1} → statement M
 blank-from-spec =

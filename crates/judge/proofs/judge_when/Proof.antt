@@ -12,19 +12,38 @@ passes-plan-requires c κs = search needs
 
 returns : tie.Need-returns
 returns c =
-    unknown _ _ (c .before .before .before .before .args .known) _ _ (c .before .before .well-formed .ensures) (c .before .passes-plan .ensures) (c .if1 .taken)
+    let passed : tie.After-passes-plan = search in
+    let formed : tie.After-well-formed = search in
+    let start : tie.Start = search in
+    unknown _ _ (start .args .known) _ _ (formed .well-formed .ensures) (passed .passes-plan .ensures) (c .if1 .taken)
 
 returns-2 : tie.Need-returns-2
 returns-2 c =
-    malformed _ _ (c .before .before .before .before .before .args .known) _ _ (c .before .before .before .well-formed .ensures) (c .before .before .passes-plan .ensures) (c .before .if1 .left) (c .if2 .taken)
+    let known : tie.Else1 = search in
+    let passed : tie.After-passes-plan = search in
+    let formed : tie.After-well-formed = search in
+    let start : tie.Start = search in
+    malformed _ _ (start .args .known) _ _ (formed .well-formed .ensures) (passed .passes-plan .ensures) (known .if1 .left) (c .if2 .taken)
 
 returns-3 : tie.Need-returns-3
 returns-3 c =
-    unfit _ _ (c .before .before .before .before .before .before .args .known) _ _ (c .before .before .before .before .well-formed .ensures) (c .before .before .before .passes-plan .ensures) (c .before .before .if1 .left) (c .before .if2 .left) (c .if3 .taken)
+    let good : tie.Else2 = search in
+    let known : tie.Else1 = search in
+    let passed : tie.After-passes-plan = search in
+    let formed : tie.After-well-formed = search in
+    let start : tie.Start = search in
+    unfit _ _ (start .args .known) _ _ (formed .well-formed .ensures) (passed .passes-plan .ensures)
+    (known .if1 .left) (good .if2 .left) (c .if3 .taken)
 
 returns-4 : tie.Need-returns-4
 returns-4 c =
-    passed-all _ _ (c .before .before .before .before .before .before .args .known) _ _ (c .before .before .before .before .well-formed .ensures) (c .before .before .before .passes-plan .ensures) (c .before .before .if1 .left) (c .before .if2 .left) (c .if3 .left)
+    let good : tie.Else2 = search in
+    let known : tie.Else1 = search in
+    let passed : tie.After-passes-plan = search in
+    let formed : tie.After-well-formed = search in
+    let start : tie.Start = search in
+    passed-all _ _ (start .args .known) _ _ (formed .well-formed .ensures) (passed .passes-plan .ensures)
+    (known .if1 .left) (good .if2 .left) (c .if3 .left)
 
 pub judge-when-spec : {M : Type 1} → statement M
 judge-when-spec =

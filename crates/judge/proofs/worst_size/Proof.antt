@@ -19,7 +19,9 @@ returns c = need-refused _ _ _ _ (c .before .well-formed .ensures) (not-true (c 
 returns-2 : tie.Need-returns-2
 unfolding planOf worstSize
 returns-2 c =
-    need-passed _ _ _ _ _ (c .before .before .well-formed .ensures) (not-false (c .before .before .well-formed .result) (c .before .if1 .left))
+    let sound : tie.Else1 = search in
+    let formed : tie.After-well-formed = search in
+    need-passed _ _ _ _ _ (formed .well-formed .ensures) (not-false (formed .well-formed .result) (sound .if1 .left))
     (need-refused _ _ _ _ refl (lt-leb _ _ (c .if2 .taken)))
 
 worst-plan-requires : tie.Need-worst-plan-requires
@@ -28,8 +30,11 @@ worst-plan-requires c κs = search needs
 returns-3 : tie.Need-returns-3
 unfolding planOf worstSize
 returns-3 c =
-    need-passed _ _ _ _ _ (c .before .before .before .well-formed .ensures) (not-false (c .before .before .before .well-formed .result) (c .before .before .if1 .left))
-    (need-passed _ _ _ _ _ refl (le-leb _ _ (c .before .if2 .left)) (ap (λ (k : ℕ). given k) (c .worst-plan .ensures)))
+    let few : tie.Else2 = search in
+    let sound : tie.Else1 = search in
+    let formed : tie.After-well-formed = search in
+    need-passed _ _ _ _ _ (formed .well-formed .ensures) (not-false (formed .well-formed .result) (sound .if1 .left))
+    (need-passed _ _ _ _ _ refl (le-leb _ _ (few .if2 .left)) (ap (λ (k : ℕ). given k) (c .worst-plan .ensures)))
 
 pub worst-size-spec : {M : Type 1} → statement M
 worst-size-spec = tie.close (tie.spec well-formed-requires returns returns-2 worst-plan-requires returns-3)
