@@ -4,8 +4,8 @@ use mathlib.Core.Path.{_≡_, refl, sym, ap, ap₂, _∙_}
 use mathlib.Core.List.{List}
 use native.Mathlib.Nat.{zero-add}
 use native.Mathlib.Omega.{arith}
-use lib.ListN.{length, getD, take, drop, length-take}
-use lib.Seq.{sets, length-sets, getD-take, getD-drop}
+use lib.ListN.{length, getD, take, length-take}
+use lib.Seq.{sets, length-sets, getD-take}
 use Rattle.meaning.specs.Answer.{Answer, given, refused}
 use Rattle.meaning.specs.Codes.{Code, codeOf, lookCode}
 use Rattle.meaning.specs.Limits.{mostBytes}
@@ -14,9 +14,10 @@ use Rattle.meaning.specs.Units.{lookUnits}
 use Rattle.meaning.specs.declared.Position.{Position}
 use Rattle.meaning.specs.declared.Taken.{Taken}
 use Rattle.meaning.proofs.Loops.{Walked, walk-start, walk-refuse}
-use Rattle.meaning.proofs.Stores.{part-sets, getD-sets, take-sets}
+use Rattle.meaning.proofs.Stores.{getD-sets, take-sets}
 use Rattle.meaning.proofs.Stretches.{walk-stretch, stretch-here, stretch-few}
 use Rattle.meaning.proofs.Tests.{by-order}
+use Rattle.stages.proofs.Parts.{stored-get}
 use Rattle.codes.specs.Firsts.{Firsts}
 use Rattle.codes.specs.Goes.{Passed, Goes, wentRefusal}
 use Rattle.codes.specs.Started.{startedSays, startRefusal}
@@ -26,11 +27,6 @@ use Rattle.codes.specs.declared.Went.{Went}
 use Rattle.codes.specs.declared.Went.the-variants as went
 use Rattle.codes.proofs.Numbered.{laws}
 use Rattle.codes.proofs.Stretches.{goes-refused}
-
--- an element of a run of stores
-stored : (vs l : List ℕ) (a j : ℕ) → a + length vs ≤ length l → j < length vs → getD (sets l a vs) (a + j) 0 ≡ getD vs j 0
-stored vs l a j h k =
-    sym (getD-drop a (sets l a vs) j 0) ∙ sym (getD-take (length vs) (drop a (sets l a vs)) j 0 k) ∙ ap (λ (m : List ℕ). getD m j 0) (part-sets vs l a h)
 
 -- i numbers of n have been passed, and the next unit is at p
 pub record Looking (code : ℕ) (body : List ℕ) (n i : ℕ) (p : Position) : Type 0 where
@@ -87,7 +83,7 @@ module _ {code : ℕ} {body : List ℕ} {n i : ℕ} {p : Position} (l : Looking 
         those j b
         ∙ ap (λ (x : ℕ). given x)
         (sym (ap (λ (k : List ℕ). getD k (from + j) 0) (went .here)
-        ∙ stored (take room (went .numbers)) w from j (omega (arith, went .counted)) (omega (arith, went .counted))
+        ∙ stored-get (take room (went .numbers)) w from j (omega (arith, went .counted)) (omega (arith, went .counted))
         ∙ getD-take room (went .numbers) j 0 h))
 
   -- and where they stand from the first on
@@ -122,7 +118,7 @@ module _ {at : ℕ → Answer ℕ} {to : ℕ} {w₀ w : List ℕ} {i : ℕ} (so 
             (λ b. let q : j ≡ i + (j - i) = omega arith in
             let p : to + j ≡ to + i + (j - i) = omega arith in
             ap at q ∙ f (j - i) (omega arith)
-            ∙ ap (λ (x : ℕ). given x) (sym (ap₂ (λ (k : List ℕ) (y : ℕ). getD k y 0) e p ∙ stored ys w (to + i) (j - i) (omega arith) (omega arith))));
+            ∙ ap (λ (x : ℕ). given x) (sym (ap₂ (λ (k : List ℕ) (y : ℕ). getD k y 0) e p ∙ stored-get ys w (to + i) (j - i) (omega arith) (omega arith))));
         kept = ap (take to) e ∙ take-sets ys w to (to + i) (omega arith) ∙ so .kept;
         long = ap length e ∙ length-sets w (to + i) ys ∙ so .long;
       }

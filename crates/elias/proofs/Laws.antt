@@ -24,10 +24,10 @@ use Rattle.meaning.proofs.Codes.{spare-always}
 use Rattle.meaning.proofs.Lawful.{Lawful, Read}
 use Rattle.meaning.proofs.Tests.{both-true, true-both}
 use Rattle.meaning.proofs.Units.{Good, Whole, read-many, read-written, read-holds}
+use Rattle.leaves.proofs.Joined.{all-zeros, zeros-all}
 use Rattle.elias.proofs.Delta.{word-delta}
 use Rattle.elias.proofs.Gamma.{word-gamma}
 use Rattle.elias.proofs.Pack.{bits-below, pack-length, pack-below, pack-bits, packed, spare}
-use Rattle.elias.proofs.Zeros.{all-zeros, zeros-all}
 use Rattle.elias.proofs.Codewords.{Word}
 
 -- the codewords of a list

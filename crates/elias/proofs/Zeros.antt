@@ -3,16 +3,11 @@ use mathlib.Core.Path.{_≡_, refl, sym, ap, ap₂, _∙_}
 use Prim.Native.Nat.{ℕ, zero, suc, _+_, _^_, _≤_, _<_}
 use native.Mathlib.Nat.{div-eq-of-lt}
 use native.Mathlib.Omega.{arith}
-use mathlib.Core.Bool.{true}
 use mathlib.Core.List.{List, [], _∷_, _++_}
-use borrow.Author.Tests.{eqb-true}
 use lib.Count.{leadingZeros, leading-of-zero, leading-top}
-use lib.Dec.{eqb}
 use lib.ListN.{length, take, replicate}
 use Rattle.meaning.specs.Bits.{bitsHigh, zerosFirst}
-use Rattle.meaning.specs.Lists.{all}
 use Rattle.meaning.specs.Places.{Below}
-use Rattle.meaning.proofs.Tests.{both-true}
 use Rattle.elias.specs.Padded.{padded}
 use Rattle.elias.proofs.Length.{first-one}
 use Rattle.elias.proofs.Numbers.{high-split, high-zeros}
@@ -80,17 +75,3 @@ zeros-leading zero h = ap zerosFirst (high-zeros 64) ∙ zeros-only 64 ∙ sym (
 zeros-leading (suc n) h =
     let (j, e, lo, hi) = leading-top 64 (suc n) (omega arith) h in
     zeros-high 64 (leadingZeros 64 (suc n)) j (suc n) (sym e) lo hi
-
--- ---- zeros alone
-pub all-zeros : (n : ℕ) → all (eqb 0) (replicate n 0) ≡ true
-unfolding all
-all-zeros zero = refl
-all-zeros (suc n) = all-zeros n
-
-pub zeros-all : (l : List ℕ) → all (eqb 0) l ≡ true → l ≡ replicate (length l) 0
-unfolding all
-zeros-all [] e = refl
-zeros-all (x ∷ xs) e =
-    let (p, q) = both-true (eqb 0 x) (all (eqb 0) xs) e in
-    let z : x ≡ 0 = sym (eqb-true 0 x p) in
-    rw z (ap (λ (l : List ℕ). 0 ∷ l) (zeros-all xs q))

@@ -74,7 +74,8 @@ fits-next taken x more h =
     le-leb (length (dataBytes taken) + byteLength x) 8 (omega (arith, few-length x))
 
 -- numbers that fit and one that does not make a block
-blocks-from : (taken more rest : List ℕ) → length (dataBytes (taken ++ more)) ≤ 8 → Stops (taken ++ more) rest → blocksFrom taken (more ++ rest) ≡ (taken ++ more) ∷ blocks rest
+blocks-from : (taken more rest : List ℕ) → length (dataBytes (taken ++ more)) ≤ 8 → Stops (taken ++ more) rest
+    → blocksFrom taken (more ++ rest) ≡ (taken ++ more) ∷ blocks rest
 unfolding blocksFrom blocks
 blocks-from taken [] [] h s = rw append-nil
 blocks-from taken [] (x ∷ rest) h s = let t : fits taken x ≡ false = rw append-nil at s in rw (t, append-nil)
@@ -86,17 +87,22 @@ pub lengths-some : (xs : List ℕ) → Some (map byteLength xs)
 lengths-some [] = tt
 lengths-some (x ∷ xs) = (held x .least, lengths-some xs)
 
+-- those after its control byte
+abbrev pub data-of : List ℕ → List ℕ
+data-of xs = dataBytes xs ++ replicate (8 - length (dataBytes xs)) 0
+
 module _ (xs : List ℕ) (fitted : length (dataBytes xs) ≤ 8) where
   pub block-length : length (block xs) ≡ 9
   unfolding block
   block-length =
-      let l : length (dataBytes xs ++ replicate (8 - length (dataBytes xs)) 0) ≡ length (dataBytes xs) + (8 - length (dataBytes xs)) = simp (length-append, length-replicate) in
+      let l : length (data-of xs) ≡ length (dataBytes xs) + (8 - length (dataBytes xs)) = simp (length-append, length-replicate) in
       omega arith
 
   pub block-small : Below 256 (block xs)
   unfolding block
   block-small =
-      below-cons 256 (blockControl (map byteLength xs)) (dataBytes xs ++ replicate (8 - length (dataBytes xs)) 0) (control-small (map byteLength xs) (lengths-some xs) (rw (← (data-length xs)) fitted))
+      below-cons 256 (blockControl (map byteLength xs)) (data-of xs)
+      (control-small (map byteLength xs) (lengths-some xs) (rw (← (data-length xs)) fitted))
       (below-append 256 (dataBytes xs) (replicate (8 - length (dataBytes xs)) 0) (data-small xs) (below-zeros 256 (8 - length (dataBytes xs)) (omega arith)))
 
 -- ---- the first block is written, and then the rest
@@ -128,7 +134,12 @@ most-next x more [] fitted stops ih =
     rw (write-next x more [] fitted stops, write-none, append-nil (block (x ∷ more)), block-length (x ∷ more) fitted) (omega arith)
 most-next x more (y ∷ rest) fitted stops ih =
     let two = stops-full (x ∷ more) y rest stops .1 in
-    rw (write-next x more (y ∷ rest) fitted stops, length-append (block (x ∷ more)) (writeG8IU (y ∷ rest)), block-length (x ∷ more) fitted, length-append more (y ∷ rest))
+    rw (
+      write-next x more (y ∷ rest) fitted stops,
+      length-append (block (x ∷ more)) (writeG8IU (y ∷ rest)),
+      block-length (x ∷ more) fitted,
+      length-append more (y ∷ rest),
+    )
     (omega arith)
 
 pub most : (xs : List ℕ) → length (writeG8IU xs) ≤ (length xs + 1) / 2 * 9

@@ -15,10 +15,10 @@ use Rattle.meaning.specs.Lists.{all, sum}
 use Rattle.meaning.specs.Places.{Below, part}
 use Rattle.meaning.proofs.Bounds.{below-take, below-drop}
 use Rattle.meaning.proofs.Stores.{sets-snoc, set-sets, part-sets}
+use Rattle.leaves.proofs.Parts.{part-length, part-snoc, part-each}
 use Rattle.g8iu.specs.Blocks.{dataAt, Ending, BlockIs, BegunIs}
 use Rattle.g8iu.proofs.Masks.{length-1}
 use Rattle.g8iu.proofs.Numbers.{or-given, end-some}
-use Rattle.g8iu.proofs.Parts.{part-snoc, part-length, part-each}
 
 -- ---- i of the eight elements of a list from an offset on are stored
 pub record EightSo (list : List ℕ) (from : ℕ) (out₀ : List ℕ) (to : ℕ) (out : List ℕ) (i : ℕ) : Type 0 where

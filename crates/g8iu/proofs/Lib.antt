@@ -4,7 +4,6 @@ pub mod Controls
 pub mod Blocks
 pub mod Units
 pub mod Laws
-pub mod Parts
 pub mod Puts
 pub mod Writes
 pub mod Ends

@@ -18,8 +18,8 @@ use Rattle.meaning.specs.Places.{Below}
 use Rattle.meaning.proofs.Tests.{by-order}
 use Rattle.words.proofs.DataBytes.{held}
 use Rattle.words.proofs.Straight.{fewest-1, fewest-2, fewest-3, fewest-4}
+use Rattle.leaves.proofs.Parts.{part-length}
 use Rattle.g8iu.specs.Blocks.{mostOf, leastOf}
-use Rattle.g8iu.proofs.Parts.{part-length}
 use Rattle.g8iu.proofs.Tables.{at-each}
 
 -- ---- bytes as one number: the first l of them, and the rest

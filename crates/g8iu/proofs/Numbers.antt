@@ -20,9 +20,9 @@ use Rattle.meaning.specs.Places.{Below}
 use Rattle.meaning.proofs.Bounds.{below-take, below-drop}
 use Rattle.meaning.proofs.Stores.{sets-snoc}
 use Rattle.meaning.proofs.Units.{join}
+use Rattle.leaves.proofs.Parts.{part-length}
 use Rattle.g8iu.specs.Blocks.{numbersIn, dataAt, numbersAt, orFault, endOf, Ending, BegunIs}
 use Rattle.g8iu.proofs.Ends.{lengthsOf, FirstIs, first-is, lengths-start, lengths-none}
-use Rattle.g8iu.proofs.Parts.{part-length}
 use Rattle.g8iu.proofs.Masks.{high-bytes, clear-true, clear-false, masked-small, NextIs, number-whole, number-short}
 
 -- ---- the numbers of some lengths: the first, and the rest

@@ -17,10 +17,10 @@ use Rattle.meaning.specs.Places.{part}
 use Rattle.meaning.proofs.Stores.{sets-append, set-sets}
 use Rattle.words.proofs.DataBytes.{held, data-append, data-length, data-most}
 use Rattle.leaves.proofs.Joined.{joined-one}
+use Rattle.leaves.proofs.Parts.{part-snoc}
 use Rattle.g8iu.specs.Blocks.{PutBlock}
 use Rattle.g8iu.proofs.Controls.{control-none, control-small, control-more}
 use Rattle.g8iu.proofs.Blocks.{data-more, lengths-some}
-use Rattle.g8iu.proofs.Parts.{part-snoc}
 
 -- ---- zeros after the data bytes that are used: i of the 8 stand, and what is left makes the whole
 pub record ZerosSo (out₀ : List ℕ) (at used : ℕ) (out : List ℕ) (i : ℕ) : Type 0 where

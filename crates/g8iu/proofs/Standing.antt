@@ -23,12 +23,11 @@ use Rattle.meaning.specs.declared.Unit.the-variants as unit
 use Rattle.meaning.proofs.Answers.{need-given}
 use Rattle.meaning.proofs.Stores.{part-sets}
 use Rattle.meaning.proofs.Tests.{by-order, both-true}
-use Rattle.words.proofs.DataBytes.{data-length}
+use Rattle.words.proofs.DataBytes.{data-length, data-lengths, data-many}
 use Rattle.g8iu.specs.Blocks.{allowed, numbersIn, lengthsAt, dataAt, numbersAt, orFault, mostOf, leastOf, Ending, BlockIs}
 use Rattle.g8iu.proofs.Controls.{control-is}
 use Rattle.g8iu.proofs.Ends.{first-is, lengths-start}
 use Rattle.g8iu.proofs.Numbers.{need-refused, or-none, or-some, or-given}
-use Rattle.g8iu.proofs.Units.{data-lengths, data-many}
 
 -- ---- a unit by its block
 need-and : (a b : Bool) (m : Answer (List ℕ)) → need a fault (need b fault m) ≡ need (a && b) fault m

@@ -17,7 +17,8 @@ each (suc n) f = f n && each n f
 pub at-each : (n : ℕ) (f : ℕ → Bool) → each n f ≡ true → (k : ℕ) → k < n → f k ≡ true
 at-each zero f t k h = absurd (not-suc-le-zero h)
 at-each (suc n) f t k h =
-    elim (eq-or-lt-of-le (le-of-suc-le-suc h)) [ inl e ↦ subst (λ (m : ℕ). f m ≡ true) (sym e) (both-true (f n) (each n f) t .0) | inr l ↦ at-each n f (both-true (f n) (each n f) t .1) k l ]
+    let (here, below) = both-true (f n) (each n f) t in
+    elim (eq-or-lt-of-le (le-of-suc-le-suc h)) [ inl e ↦ subst (λ (m : ℕ). f m ≡ true) (sym e) here | inr l ↦ at-each n f below k l ]
 
 -- two lists are the same
 abbrev pub same : List ℕ → List ℕ → Bool

@@ -1,31 +1,30 @@
 -- A unit of G8IU: a block that was written reads back, and what reads as numbers is their block. Assumes nothing.
-use Prim.Native.Nat.{ℕ, zero, suc, _+_, _-_, _≤_, _<_}
-use mathlib.Core.Path.{_≡_, refl, sym, ap, ap₂, _∙_, subst}
+use Prim.Native.Nat.{ℕ, _+_, _-_, _≤_, _<_}
+use mathlib.Core.Path.{_≡_, sym, ap, ap₂, _∙_, subst}
 use mathlib.Core.Bool.{Bool, true, _||_}
-use mathlib.Core.List.{List, [], _∷_, _++_, map}
+use mathlib.Core.List.{List, _∷_, _++_, map}
 use native.Mathlib.Nat.{add-zero}
 use native.Mathlib.Numerals.{add-one}
 use native.Mathlib.Omega.{arith}
 use lib.Dec.{leb, eqb}
 use lib.ListN.{length, getD, take, drop, replicate, length-append, length-drop, length-map, take-append-drop}
 use lib.Seq.{getD-drop, drop-drop, take-at, drop-append-seam, drop-cons, length-take-le}
-use borrow.Author.Tests.{le-leb, leb-true, eqb-true}
+use borrow.Author.Tests.{le-leb, leb-true}
 use Rattle.meaning.specs.Answer.{given}
 use Rattle.meaning.specs.Limits.{fault, numberLimit}
 use Rattle.meaning.specs.Lists.{all, sum}
 use Rattle.meaning.specs.Places.{Below}
 use Rattle.meaning.specs.Positions.{atByte}
-use Rattle.meaning.specs.Bytes.{numberOf}
 use Rattle.meaning.specs.DataBytes.{byteLength, dataBytes, dataIn}
 use Rattle.meaning.specs.G8IU.{blockControl, block, blockLengths, blockIn, unitG8IU}
 use Rattle.meaning.specs.declared.Position.{Position}
 use Rattle.meaning.proofs.Answers.{bind-given, need-given}
 use Rattle.meaning.proofs.Bounds.{below-take, below-drop}
-use Rattle.meaning.proofs.Tests.{both-true}
 use Rattle.meaning.proofs.Units.{Good}
-use Rattle.words.proofs.DataBytes.{data-length, data-written, data-back}
+use Rattle.words.proofs.DataBytes.{data-length, data-many, data-written, data-back}
+use Rattle.leaves.proofs.Joined.{all-zeros, zeros-all}
 use Rattle.g8iu.proofs.Controls.{lengths-control, control-is}
-use Rattle.g8iu.proofs.Blocks.{lengths-some, block-length}
+use Rattle.g8iu.proofs.Blocks.{lengths-some, data-of, block-length}
 
 -- ---- a list seen from an offset
 module _ (s : List ℕ) (at b : ℕ) (bs : List ℕ) (e : drop at s ≡ b ∷ bs) where
@@ -57,29 +56,22 @@ unfolding blockIn
 block-given left ls bytes xs t = rw (le-leb 1 (length ls) (t .some), le-leb (length ls) left (t .few), t .ends, t .clear) (t .numbers)
 
 -- ---- written and read
-zeros-zero : (n : ℕ) → all (eqb 0) (replicate n 0) ≡ true
-unfolding all
-zeros-zero zero = refl
-zeros-zero (suc n) = zeros-zero n
-
 -- the list ends with the block, or its waste is at most 3
 abbrev pub Ends : ℕ → List ℕ → Bool
 Ends left xs = leb (8 - length (dataBytes xs)) 3 || eqb (length xs) left
 
-module _ (left : ℕ) (xs : List ℕ) (some : 1 ≤ length xs) (few : length xs ≤ left) (small : Below numberLimit xs) (fitted : length (dataBytes xs) ≤ 8) (ends : Ends left xs ≡ true) where
-  abbrev data-of : List ℕ
-  data-of = dataBytes xs ++ replicate (8 - length (dataBytes xs)) 0
-
-  block-written : blockIn left (map byteLength xs) data-of ≡ given xs
+module _ (left : ℕ) (xs : List ℕ) (some : 1 ≤ length xs) (few : length xs ≤ left) (small : Below numberLimit xs)
+    (fitted : length (dataBytes xs) ≤ 8) (ends : Ends left xs ≡ true) where
+  block-written : blockIn left (map byteLength xs) (data-of xs) ≡ given xs
   block-written =
       let n = length-map xs byteLength in
       let l = data-length xs in
-      block-given left (map byteLength xs) data-of xs
+      block-given left (map byteLength xs) (data-of xs) xs
       (record {
         some = omega arith;
         few = omega arith;
         ends = rw (n, ← l) ends;
-        clear = rw (← l, drop-append-seam (dataBytes xs) (replicate (8 - length (dataBytes xs)) 0)) (zeros-zero (8 - length (dataBytes xs)));
+        clear = rw (← l, drop-append-seam (dataBytes xs) (replicate (8 - length (dataBytes xs)) 0)) (all-zeros (8 - length (dataBytes xs)));
         numbers = data-written xs (replicate (8 - length (dataBytes xs)) 0) small;
       })
 
@@ -89,30 +81,20 @@ module _ (left : ℕ) (xs : List ℕ) (some : 1 ≤ length xs) (few : length xs 
   unfolding unitG8IU block
   unit-written body p rest inside e =
       let at = p .head .byte in
-      let l : length body - at ≡ 9 + length rest = sym (length-drop at body) ∙ ap length e ∙ length-append (block xs) rest ∙ ap (λ (n : ℕ). n + length rest) (block-length xs fitted) in
-      let d : length data-of ≡ 8 = omega (arith, block-length xs fitted) in
+      let nine = block-length xs fitted in
+      let l : length body - at ≡ 9 + length rest =
+      sym (length-drop at body) ∙ ap length e ∙ length-append (block xs) rest ∙ ap (λ (n : ℕ). n + length rest) nine in
+      let d : length (data-of xs) ≡ 8 = omega (arith, nine) in
       rw (
         le-leb (at + 9) (length body) (omega arith),
         first-is body at _ _ e,
-        later-is body at (blockControl (map byteLength xs)) (data-of ++ rest) e,
-        take-at data-of rest 8 d,
+        later-is body at (blockControl (map byteLength xs)) (data-of xs ++ rest) e,
+        take-at (data-of xs) rest 8 d,
         lengths-control (map byteLength xs) (lengths-some xs) (rw (← (data-length xs)) fitted),
         block-written,
       )
 
 -- ---- read and written back
-pub data-lengths : (ls bytes xs : List ℕ) → dataIn ls bytes ≡ given xs → map byteLength xs ≡ ls
-unfolding dataIn
-data-lengths [] bytes xs e = let is : [] ≡ xs = cc in rw (← is)
-data-lengths (l ∷ ls) bytes xs e =
-    let (t, e₁) = need-given (eqb (byteLength (numberOf (take l bytes))) l) fault _ xs e in
-    let (ys, ey, e₂) = bind-given (dataIn ls (drop l bytes)) _ xs e₁ in
-    let is : numberOf (take l bytes) ∷ ys ≡ xs = cc in
-    sym (ap (map byteLength) is) ∙ ap₂ (λ (n : ℕ) (r : List ℕ). n ∷ r) (eqb-true _ l t) (data-lengths ls (drop l bytes) ys ey)
-
-pub data-many : (ls bytes xs : List ℕ) → dataIn ls bytes ≡ given xs → length xs ≡ length ls
-data-many ls bytes xs e = sym (length-map xs byteLength) ∙ ap length (data-lengths ls bytes xs e)
-
 -- a unit that was read: the block is there, and its tests passed
 pub record Taken (body : List ℕ) (left : ℕ) (p : Position) (u : Position × List ℕ) : Type 0 where
   pub inside : p .head .byte + 9 ≤ length body
@@ -141,13 +123,6 @@ good body =
       few = λ left p u h e. let t = taken body left p u e .tests in omega (arith, data-many _ _ _ (t .numbers));
     }
 
-zeros-are : (bs : List ℕ) → all (eqb 0) bs ≡ true → bs ≡ replicate (length bs) 0
-unfolding all
-zeros-are [] h = refl
-zeros-are (b ∷ bs) h =
-    let (z, r) = both-true (eqb 0 b) (all (eqb 0) bs) h in
-    ap₂ (λ (x : ℕ) (l : List ℕ). x ∷ l) (sym (eqb-true 0 b z)) (zeros-are bs r)
-
 -- a block that was read is the one that is written
 pub record IsBlock (c : ℕ) (bytes xs : List ℕ) : Type 0 where
   pub is : c ∷ bytes ≡ block xs
@@ -162,7 +137,7 @@ is-block c left bytes xs h b l t =
     let f = data-back ls bytes xs b (omega (arith, k .within)) (t .numbers) in
     let n : length (dataBytes xs) ≡ sum ls = data-length xs ∙ ap sum (f .lengths) in
     let w : length (drop (sum ls) bytes) ≡ 8 - length (dataBytes xs) = rw (n, length-drop (sum ls) bytes, l) in
-    let waste : drop (sum ls) bytes ≡ replicate (8 - length (dataBytes xs)) 0 = zeros-are (drop (sum ls) bytes) (t .clear) ∙ ap (λ (k : ℕ). replicate k 0) w in
+    let waste : drop (sum ls) bytes ≡ replicate (8 - length (dataBytes xs)) 0 = zeros-all (drop (sum ls) bytes) (t .clear) ∙ ap (λ (k : ℕ). replicate k 0) w in
     record {
       is = ap₂ (λ (x : ℕ) (r : List ℕ). x ∷ r) (sym (k .back) ∙ ap blockControl (sym (f .lengths)))
           (sym (take-append-drop (sum ls) bytes) ∙ ap₂ _++_ (f .is) waste);
@@ -175,7 +150,8 @@ pub record Back (body : List ℕ) (at : ℕ) (xs : List ℕ) : Type 0 where
   pub fitted : length (dataBytes xs) ≤ 8
   pub small : Below numberLimit xs
 
-pub unit-back : (body : List ℕ) → Below 256 body → (left : ℕ) (p : Position) (u : Position × List ℕ) → unitG8IU body left p ≡ given u → Back body (p .head .byte) (u .1)
+pub unit-back : (body : List ℕ) → Below 256 body → (left : ℕ) (p : Position) (u : Position × List ℕ) → unitG8IU body left p ≡ given u
+    → Back body (p .head .byte) (u .1)
 unit-back body b left p u e =
     let at = p .head .byte in
     let t = taken body left p u e in

@@ -12,9 +12,9 @@ use Rattle.meaning.specs.G8IU.{fits, block, writeG8IU}
 use Rattle.meaning.specs.Places.{Source, Wrote, part}
 use Rattle.meaning.proofs.Stores.{sets-append}
 use Rattle.meaning.proofs.Tests.{by-order}
+use Rattle.leaves.proofs.Parts.{part-length, part-cons}
 use Rattle.g8iu.specs.Blocks.{PutBlock}
 use Rattle.g8iu.proofs.Blocks.{Stops, block-length, write-none, write-next}
-use Rattle.g8iu.proofs.Parts.{part-next, part-length}
 
 pub record WriteSo (list : List ℕ) (first end at : ℕ) (out₀ out : List ℕ) (to next : ℕ) : Type 0 where
   pub inside : end ≤ length list
@@ -44,7 +44,7 @@ write-start {first = first} {n} source =
 stops-at : (b list : List ℕ) (r end : ℕ) → r ≤ end → end ≤ length list → (r < end → fits b (getD list r 0) ≡ false) → Stops b (part list r (end - r))
 stops-at b list r end h inside s =
     by-order r end
-    (λ l. rw (part-next list r end l inside) (s l))
+    (λ l. rw (part-cons list r (end - r) (omega arith) (omega arith)) (s l))
     (λ l. let e : end - r ≡ 0 = omega arith in rw e tt)
 
 write-block : (b rest : List ℕ) → 0 < length b → length (dataBytes b) ≤ 8 → Stops b rest → writeG8IU (b ++ rest) ≡ block b ++ writeG8IU rest

@@ -1,15 +1,14 @@
 -- One group, by its control byte and its data, wherever they stand: a written group reads as its numbers, and what reads as numbers is their group.
 -- Assumes nothing.
-use Prim.Native.Nat.{ℕ, suc, _+_, _/_, _^_, _≤_, _<_, min}
+use Prim.Native.Nat.{ℕ, _+_, _/_, _^_, _≤_, _<_, min}
 use mathlib.Core.Path.{_≡_, refl, sym, ap, ap₂, _∙_, subst}
-use mathlib.Core.List.{List, [], _∷_, _++_, map}
+use mathlib.Core.List.{List, _++_, map}
 use native.Mathlib.Omega.{arith}
 use lib.Dec.{leb, ltb, eqb}
-use lib.ListN.{length, getD, take, drop, length-append, take-append-drop}
+use lib.ListN.{length, getD, drop, length-append, take-append-drop}
 use lib.Seq.{drop-drop}
 use borrow.Author.Tests.{lt-ltb, le-leb, eq-eqb, ltb-true, leb-true, eqb-true}
 use Rattle.meaning.specs.Answer.{given}
-use Rattle.meaning.specs.Bytes.{numberOf}
 use Rattle.meaning.specs.DataBytes.{byteLength, dataBytes, dataIn}
 use Rattle.meaning.specs.Groups.{controlOf, lengthsIn, control, groupIn, groupAt}
 use Rattle.meaning.specs.Limits.{fault, numberLimit}
@@ -17,7 +16,7 @@ use Rattle.meaning.specs.Lists.{sum}
 use Rattle.meaning.specs.Places.{Below}
 use Rattle.meaning.proofs.Answers.{Faulty, bind-given, need-given, bind-faulty, need-faulty}
 use Rattle.meaning.proofs.Bounds.{below-drop}
-use Rattle.words.proofs.DataBytes.{data-length, data-written, data-back, data-faulty}
+use Rattle.words.proofs.DataBytes.{data-length, data-many, data-written, data-back, data-faulty}
 use Rattle.groups.proofs.Controls.{control-in, control-none, lengths-control, lengths-many}
 
 -- ---- written
@@ -47,16 +46,6 @@ passed k c bytes xs e =
     let (t, e₁) = need-given (leb (sum (lengthsIn k c)) (length bytes)) fault _ xs e in
     let (u, e₂) = need-given (eqb (c / 4 ^ k) 0) fault _ xs e₁ in
     record { there = leb-true _ _ t; unused = eqb-true _ _ u; numbers = e₂ }
-
--- a number from each field
-data-many : (ls bytes xs : List ℕ) → dataIn ls bytes ≡ given xs → length xs ≡ length ls
-unfolding dataIn
-data-many [] bytes xs e = let is : [] ≡ xs = cc in rw (← is)
-data-many (l ∷ ls) bytes xs e =
-    let (t, e₁) = need-given (eqb (byteLength (numberOf (take l bytes))) l) fault _ xs e in
-    let (ys, ey, e₂) = bind-given (dataIn ls (drop l bytes)) _ xs e₁ in
-    let is : numberOf (take l bytes) ∷ ys ≡ xs = cc in
-    sym (ap length is) ∙ ap suc (data-many ls (drop l bytes) ys ey)
 
 pub group-many : (k c : ℕ) (bytes xs : List ℕ) → groupIn k c bytes ≡ given xs → length xs ≡ k
 group-many k c bytes xs e = data-many (lengthsIn k c) bytes xs (passed k c bytes xs e .numbers) ∙ lengths-many k c

@@ -3,10 +3,9 @@ use Prim.Native.Nat.{ℕ, zero, suc, _+_, _-_, _*_, _≤_, _<_, min}
 use mathlib.Core.Path.{_≡_, refl, sym, ap, _∙_}
 use mathlib.Core.List.{List, [], _∷_, _++_}
 use native.Mathlib.Nat.{add-zero, add-assoc, sub-zero}
-use native.Mathlib.Numerals.{add-one}
 use native.Mathlib.Omega.{arith}
-use lib.ListN.{length, getD, take, drop, set, length-append, length-take, length-drop}
-use lib.Seq.{sets, length-sets, take-nil, take-all, take-take, drop-drop, drop-cons}
+use lib.ListN.{length, getD, take, drop, set, length-append, length-take}
+use lib.Seq.{sets, length-sets, take-nil, take-all, take-take, drop-drop}
 use Rattle.meaning.specs.DataBytes.{byteLength, fewest, dataBytes}
 use Rattle.meaning.specs.Groups.{fours, groupCount, controlOf, control, writeGroups}
 use Rattle.meaning.specs.Lists.{joined}
@@ -15,6 +14,7 @@ use Rattle.meaning.specs.declared.Offset.{Offset}
 use Rattle.meaning.proofs.Stores.{sets-append}
 use Rattle.meaning.proofs.Tests.{by-order}
 use Rattle.words.proofs.DataBytes.{few-length, data-cons, data-most}
+use Rattle.leaves.proofs.Parts.{part-length, part-cons}
 use Rattle.groups.specs.Parts.{dataOf, controlsOf, groupsOf}
 use Rattle.groups.proofs.Fours.{groups-next, controls-next, controls-count, groups-size}
 
@@ -51,12 +51,6 @@ module _ {bytes : ℕ → ℕ → List ℕ} {from n at : ℕ} {out₀ out : List
       let e : bytes (from + i) (n - i) ≡ [] = rw m (none (from + i)) in
       record { ends = sym (add-zero to) ∙ ap (λ (l : List ℕ). to + length l) (sym e) ∙ so .ends; here = ap (sets out to) (sym e) ∙ so .here }
 
--- bytes put after bytes
-pub put-after : {xs ys : List ℕ} {at : ℕ} {mid end : Offset} {out out₁ out₂ : List ℕ} → Wrote xs at out out₁ mid → Wrote ys (mid .byte) out₁ out₂ end
-    → Wrote (xs ++ ys) at out out₂ end
-put-after {xs} {ys} {at} {out = out} p q =
-    record { ends = omega (arith, p .ends, q .ends, length-append xs ys); here = q .here ∙ rw (p .here, p .ends) (sets-append xs ys out at) }
-
 -- one byte put, and one number
 pub put-one : {b v at : ℕ} {out out′ : List ℕ} → out′ ≡ set out at b → b ≡ v → Wrote (v ∷ []) at out out′ (record { byte = at + 1 })
 put-one {at = at} {out = out} e is = record { ends = refl; here = e ∙ ap (set out at) is }
@@ -66,15 +60,6 @@ pub put-few : (x : ℕ) {at end : ℕ} {out out′ : List ℕ} → (end ≡ at +
 put-few x {at = at} e = record { ends = e .0 ∙ ap (λ (m : ℕ). at + m) (sym (few-length x)); here = e .1 }
 
 -- ---- parts of a list
-module _ (xs : List ℕ) where
-  pub part-length : (from m : ℕ) → from + m ≤ length xs → length (part xs from m) ≡ m
-  part-length from m h = length-take m (drop from xs) ∙ omega (arith, length-drop from xs)
-
-  pub part-next : (from m : ℕ) → 0 < m → from + m ≤ length xs → part xs from m ≡ getD xs from 0 ∷ part xs (from + 1) (m - 1)
-  part-next from m some h =
-      let n : m ≡ suc (m - 1) = omega arith in
-      ap (λ (k : ℕ). take k (drop from xs)) n ∙ ap (take (suc (m - 1))) (drop-cons xs from 0 (omega arith)) ∙ rw add-one
-
 drop-take : (k m : ℕ) (l : List ℕ) → drop k (take m l) ≡ take (m - k) (drop k l)
 drop-take zero m l = rw (sub-zero m)
 drop-take (suc k) zero l = let e : 0 - suc k ≡ 0 = omega arith in rw e
@@ -108,7 +93,7 @@ module _ (xs : List ℕ) where
 
   module _ (from left : ℕ) (some : 0 < left) (inside : from + left ≤ length xs) where
     pub data-turn : dataOf xs from left ≡ fewest (getD xs from 0) ++ dataOf xs (from + 1) (left - 1)
-    data-turn = rw (part-next xs from left some inside) (data-cons (getD xs from 0) (part xs (from + 1) (left - 1)))
+    data-turn = rw (part-cons xs from left some inside) (data-cons (getD xs from 0) (part xs (from + 1) (left - 1)))
 
     module _ (k : ℕ) (next : k ≡ min 4 left) where
       some-part : 0 < length (part xs from left)
@@ -148,7 +133,7 @@ module _ (xs : List ℕ) where
 
   control-next : (from m : ℕ) → 0 < m → from + m ≤ length xs → control (part xs from m) ≡ field from + 4 * control (part xs (from + 1) (m - 1))
   unfolding control controlOf
-  control-next from m some h = rw (part-next xs from m some h)
+  control-next from m some h = rw (part-cons xs from m some h)
 
   pub control-0 : (from : ℕ) → 0 ≡ control (part xs from 0)
   unfolding control controlOf

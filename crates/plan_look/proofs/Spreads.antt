@@ -13,11 +13,12 @@ use Rattle.meaning.specs.Lists.{sum}
 use Rattle.meaning.specs.Places.{part}
 use Rattle.meaning.specs.Stages.{unroll, seek}
 use Rattle.meaning.proofs.Tests.{by-order, by-test}
+use Rattle.leaves.proofs.Parts.{part-length}
 use Rattle.codes.specs.Firsts.{Firsts}
 use Rattle.codes.specs.declared.First.{First}
 use Rattle.stages.specs.Runs.{runFits, Spread}
 use Rattle.stages.specs.declared.Laid.{Laid}
-use Rattle.stages.proofs.Parts.{part-length, part-get}
+use Rattle.stages.proofs.Parts.{part-get}
 use Rattle.stages.proofs.RunsBack.{unroll-length}
 use Rattle.stages.proofs.Seeks.{seek-none, seek-stops, seek-breaks, seek-here, seek-past, finds}
 use Rattle.stages.proofs.Unrolls.{fits-so, laid-at, laid-behind, laid-kept, some-many}

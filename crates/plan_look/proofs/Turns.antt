@@ -14,13 +14,14 @@ use Rattle.meaning.specs.Lists.{sum}
 use Rattle.meaning.specs.Places.{part}
 use Rattle.meaning.specs.Stages.{sumsFrom, within, total}
 use Rattle.meaning.proofs.Tests.{by-order}
+use Rattle.leaves.proofs.Parts.{part-length}
 use Rattle.codes.specs.Firsts.{Firsts}
 use Rattle.codes.specs.declared.First.{First}
 use Rattle.codes.proofs.Totals.{total-refused}
 use Rattle.stages.specs.Firsts.{firstSmall, Stored}
 use Rattle.stages.proofs.Firsts.{first-most, first-small, first-large}
 use Rattle.stages.proofs.Looks.{within-given, sum-taken, total-taken}
-use Rattle.stages.proofs.Parts.{part-length, part-get, shorter}
+use Rattle.stages.proofs.Parts.{part-get, shorter}
 use Rattle.stages.proofs.Raises.{stored-kept, stored-at}
 use Rattle.stages.proofs.Scans.{raisedBy, raised-at, raise-scan, sums-scan, scan-length}
 use Rattle.plan_look.specs.Turns.{raisedAt, summedAt, endedBy, cutAt}

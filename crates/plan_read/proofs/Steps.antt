@@ -20,11 +20,6 @@ use Rattle.stages.proofs.Back.{back}
 use Rattle.stages.proofs.Gots.{got-refused, got-given, got-not, got-stop, got-then}
 use Rattle.stages.proofs.Headers.{Headed, Headless}
 use Rattle.stages.proofs.Parts.{shorter, to-the-end}
-use Rattle.stages.specs.Room.{room}
-
-pub room-top : (n : ℕ) → room 3 n ≡ 7 * n
-unfolding room
-room-top n = omega arith
 
 got-as : (a b : Answer (List ℕ)) (from : ℕ) (w w′ : List ℕ) (r : Reading) → a ≡ b → Got b from w w′ r → Got a from w w′ r
 got-as a b from w w′ r e s = rw e s

@@ -14,11 +14,12 @@ use Rattle.meaning.specs.Stages.{least, lessBefore, runValues, runLengths, writ
 use Rattle.meaning.specs.declared.Offset.{Offset}
 use Rattle.meaning.proofs.Stores.{sets-append, sets-swap, take-sets, part-sets, part-same}
 use Rattle.words.proofs.Bytes.{bytes-length}
+use Rattle.leaves.proofs.Parts.{part-length}
 use Rattle.codes.proofs.Numbered.{laws}
 use Rattle.stages.specs.Runs.{RunsMade}
 use Rattle.stages.specs.Room.{room, cap}
 use Rattle.stages.proofs.Most.{cap-least, worst-cap, worst-grows, most, less-length, gaps-length}
-use Rattle.stages.proofs.Parts.{part-length, part-below, shorter}
+use Rattle.stages.proofs.Parts.{part-below, shorter}
 use Rattle.stages.proofs.Rooms.{room-least, room-grows}
 use Rattle.stages.proofs.Runs.{runs-few}
 use Rattle.plan_write.specs.Written.{Fit, FitRuns, Written}
@@ -28,10 +29,6 @@ cap-grows : (l k n : ℕ) → k ≤ n → cap l k ≤ cap l n
 unfolding cap
 cap-grows zero k n h = omega arith
 cap-grows (suc l) k n h = omega (arith, cap-grows l k n h)
-
-pub top-room : (n : ℕ) → (room 3 n ≡ 7 * n) × (cap 3 n ≡ 72 * n + 56)
-unfolding room cap
-top-room n = (omega arith, omega arith)
 
 -- a plan writes no more than its cap
 write-cap : (l : ℕ) (bytes : List ℕ) (pos : ℕ) (ys : List ℕ) (n : ℕ) → Below numberLimit ys → length ys ≤ n → n ≤ mostNumbers

@@ -8,7 +8,8 @@ use lib.ListN.{length, getD, take, drop, set, length-drop, length-set}
 use lib.Seq.{sets, sets-eq, getD-drop, drop-length}
 use Rattle.meaning.specs.Places.{part}
 use Rattle.meaning.proofs.Stores.{part-sets}
-use Rattle.stages.proofs.Parts.{part-length, stored-next}
+use Rattle.leaves.proofs.Parts.{part-length}
+use Rattle.stages.proofs.Parts.{stored-next}
 
 -- from a place of a source on, to a place of an output on
 pub record Copying (src : List ℕ) (from n : ℕ) (o₀ : List ℕ) (at : ℕ) (o : List ℕ) (i : ℕ) : Type 0 where

@@ -10,14 +10,12 @@ use lib.Seq.{sets, length-take-le, take-all, take-take, take-suc, drop-cons, get
 use Rattle.meaning.specs.Places.{Below, part}
 use Rattle.meaning.proofs.Bounds.{below-take, below-drop}
 use Rattle.meaning.proofs.Stores.{sets-snoc, part-sets}
+use Rattle.leaves.proofs.Parts.{part-length}
 
 module _ (w : List ℕ) (from n : ℕ) where
-  pub part-length : from + n ≤ length w → length (part w from n) ≡ n
-  part-length h = length-take-le n (drop from w) (omega (arith, length-drop from w))
-
   pub part-at : from + n ≤ length w → (i : ℕ) → i < n → drop i (part w from n) ≡ getD w (from + i) 0 ∷ drop (i + 1) (part w from n)
   part-at h i k =
-      drop-cons (part w from n) i 0 (omega (arith, part-length h))
+      drop-cons (part w from n) i 0 (omega (arith, part-length w from n h))
       ∙ rw (getD-take n (drop from w) i 0 k, getD-drop from w i 0, add-one)
 
   pub part-first : from + n ≤ length w → (n ≡ 0 → ⊥) → part w from n ≡ getD w from 0 ∷ drop 1 (part w from n)

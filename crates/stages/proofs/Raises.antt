@@ -12,10 +12,11 @@ use Rattle.meaning.specs.Places.{part, Got}
 use Rattle.meaning.specs.Stages.{least, sumsFrom, small, raised, summed}
 use Rattle.meaning.specs.declared.Reading.the-variants.{Whole, Refused}
 use Rattle.meaning.proofs.Stores.{part-sets, take-sets}
+use Rattle.leaves.proofs.Parts.{part-length}
 use Rattle.stages.specs.Firsts.{Stored}
 use Rattle.stages.proofs.Firsts.{first-most, all-small, one-large}
 use Rattle.stages.proofs.Gots.{got-refused, got-stored}
-use Rattle.stages.proofs.Parts.{part-length, stored-get}
+use Rattle.stages.proofs.Parts.{stored-get}
 use Rattle.stages.proofs.Scans.{raisedBy, raise-scan, sums-scan, scan-length}
 
 pub stored-kept : {xs : List ℕ} {from : ℕ} {w w₁ : List ℕ} {r : ℕ} → Stored xs from w w₁ r → take from w₁ ≡ take from w

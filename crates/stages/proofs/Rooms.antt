@@ -4,12 +4,17 @@ use mathlib.Core.Path.{_≡_, ap, subst}
 use mathlib.Core.List.{List}
 use native.Mathlib.Omega.{arith}
 use lib.ListN.{length}
-use Rattle.stages.specs.Room.{room, Fits}
+use Rattle.stages.specs.Room.{room, cap, Fits}
 
 pub room-least : (l n : ℕ) → n ≤ room l n
 unfolding room
 room-least zero n = omega arith
 room-least (suc l) n = omega arith
+
+-- three stages over a code: a whole plan
+pub top-room : (n : ℕ) → (room 3 n ≡ 7 * n) × (cap 3 n ≡ 72 * n + 56)
+unfolding room cap
+top-room n = (omega arith, omega arith)
 
 pub room-grows : (l k n : ℕ) → k ≤ n → room l k ≤ room l n
 unfolding room

@@ -9,8 +9,9 @@ use lib.Seq.{sets, length-sets, getD-take}
 use Rattle.meaning.specs.Places.{part}
 use Rattle.meaning.specs.Stages.{valuesAfter, lengthsAfter, runValues, runLengths}
 use Rattle.meaning.proofs.Stores.{take-sets, sets-swap, part-sets, part-same}
+use Rattle.leaves.proofs.Parts.{part-length}
 use Rattle.stages.specs.Runs.{RunsMade}
-use Rattle.stages.proofs.Parts.{part-length, part-at, part-first, part-end}
+use Rattle.stages.proofs.Parts.{part-at, part-first, part-end}
 use Rattle.stages.proofs.Runs.{values-same, values-next, lengths-same, lengths-next, after-many, after-few, runs-many, runs-few}
 
 -- `v` is the present run's value, `k` its length so far, `j` runs are behind it, `i` is the place

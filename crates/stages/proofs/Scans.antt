@@ -13,8 +13,9 @@ use Rattle.meaning.specs.Limits.{numberLimit}
 use Rattle.meaning.specs.Places.{part}
 use Rattle.meaning.specs.Stages.{lessBefore, sumsFrom}
 use Rattle.meaning.proofs.Stores.{getD-sets, getD-past}
+use Rattle.leaves.proofs.Parts.{part-length}
 use Rattle.stages.specs.Firsts.{firstSmall, Stored}
-use Rattle.stages.proofs.Parts.{part-length, part-at, part-end, stored-next}
+use Rattle.stages.proofs.Parts.{part-at, part-end, stored-next}
 
 -- each number x becomes f s x, where s is a state that x takes to g s x
 pub record Scan (F : ℕ → List ℕ → List ℕ) (f g : ℕ → ℕ → ℕ) : Type 0 where

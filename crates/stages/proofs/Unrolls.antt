@@ -17,10 +17,11 @@ use Rattle.meaning.specs.declared.Reading.the-variants.{Whole, Refused}
 use Rattle.meaning.proofs.Stores.{sets-snoc, sets-append, take-sets, getD-past}
 use Rattle.meaning.proofs.Tests.{by-order, by-test, both-true}
 use Rattle.leaves.proofs.Joined.{sum-append}
+use Rattle.leaves.proofs.Parts.{part-length}
 use Rattle.stages.specs.Runs.{runFits, Laying, Spread}
 use Rattle.stages.specs.declared.Laid.{Laid}
 use Rattle.stages.proofs.Gots.{got-refused, got-stored, need-fault}
-use Rattle.stages.proofs.Parts.{part-length, part-get, stored-get}
+use Rattle.stages.proofs.Parts.{part-get, stored-get}
 use Rattle.stages.proofs.RunsBack.{unroll-length}
 
 -- ---- one value over and over

@@ -1,18 +1,19 @@
 -- Writing byte by byte and number by number, on plain values. Assumes nothing.
 use Prim.Native.Nat.{ℕ, zero, suc, _+_, _/_, _%_, _^_, _≤_, _<_}
 use mathlib.Core.Path.{_≡_, refl, sym, ap, _∙_}
-use mathlib.Core.List.{List, [], _∷_, _++_, append-nil, append-assoc}
+use mathlib.Core.List.{List, [], _∷_}
 use native.Mathlib.Nat.{add-zero}
 use native.Mathlib.Numerals.{add-one}
 use native.Mathlib.Omega.{arith}
-use lib.ListN.{length, getD, drop, set, length-append, length-drop}
-use lib.Seq.{take-suc, getD-drop, length-take-le, length-sets}
+use lib.ListN.{length, getD, drop, set, length-drop}
+use lib.Seq.{getD-drop, length-take-le, length-sets}
 use borrow.Author.Tests.{lt-ltb, le-ltb}
 use Rattle.meaning.specs.Lists.{joined}
 use Rattle.meaning.specs.Places.{part, Source, Wrote}
 use Rattle.meaning.specs.VByte.{sevens, vbyte}
 use Rattle.meaning.specs.declared.Offset.{Offset}
-use Rattle.meaning.proofs.Stores.{sets-append}
+use Rattle.leaves.proofs.Joined.{joined-next}
+use Rattle.leaves.proofs.Parts.{wrote-after}
 use Rattle.vbyte.proofs.Laws.{most}
 
 -- ---- one number
@@ -35,35 +36,7 @@ put-more k x {at} {next} h after e p =
     let n : next ≡ suc at = after ∙ add-one at in
     rw (le-ltb x 128 h) (record { ends = omega (arith, p .ends); here = p .here ∙ rw (e, n) })
 
--- some bytes and then others
-wrote-both : {xs ys : List ℕ} {at : ℕ} {to r : Offset} {out out′ out″ : List ℕ} → Wrote xs at out out′ to → Wrote ys (to .byte) out′ out″ r
-    → Wrote (xs ++ ys) at out out″ r
-wrote-both {xs} {ys} {at} {to} {r} {out} p q =
-    record {
-      ends = rw (length-append xs ys) (omega (arith, p .ends, q .ends));
-      here = q .here ∙ rw (p .here, p .ends) (sets-append xs ys out at);
-    }
-
--- ---- a list, number by number
-pub part-next : (xs : List ℕ) (from i : ℕ) → from + i < length xs → part xs from (i + 1) ≡ part xs from i ++ (getD xs (from + i) 0 ∷ [])
-part-next xs from i h =
-    let l : i < length (drop from xs) = simp length-drop (omega arith) in
-    rw (add-one, take-suc (drop from xs) i 0 l, getD-drop)
-
-module _ (f : ℕ → List ℕ) where
-  joined-append : (xs ys : List ℕ) → joined f (xs ++ ys) ≡ joined f xs ++ joined f ys
-  unfolding joined
-  joined-append [] ys = refl
-  joined-append (x ∷ xs) ys = rw (joined-append xs ys) (sym (append-assoc (f x) (joined f xs) (joined f ys)))
-
-  joined-one : (x : ℕ) → joined f (x ∷ []) ≡ f x
-  unfolding joined
-  joined-one x = append-nil (f x)
-
-  joined-next : (xs : List ℕ) (from i : ℕ) → from + i < length xs → joined f (part xs from (i + 1)) ≡ joined f (part xs from i) ++ f (getD xs (from + i) 0)
-  joined-next xs from i h = rw (part-next xs from i h, joined-append (part xs from i), joined-one)
-
--- i numbers have been written
+-- ---- a list, number by number: i numbers have been written
 pub record Written (list : List ℕ) (from n at : ℕ) (out₀ out : List ℕ) (to : Offset) (i : ℕ) : Type 0 where
   pub source : Source list from n at
   pub many : i ≤ n
@@ -86,8 +59,8 @@ module _ {list : List ℕ} {from n at : ℕ} {out₀ out : List ℕ} {to : Offse
   pub write-turn : i < n → {out′ : List ℕ} {r : Offset} → Wrote (vbyte (getD list (from + i) 0)) (to .byte) out out′ r
       → Written list from n at out₀ out′ r (i + 1)
   write-turn h p =
-      let e = joined-next vbyte list from i (omega (arith, w .source .inside)) in
-      record { source = w .source; many = omega arith; so = rw e (wrote-both (w .so) p) }
+      let e = joined-next vbyte (drop from list) 0 i (simp length-drop (omega (arith, w .source .inside))) in
+      record { source = w .source; many = omega arith; so = rw (e, getD-drop from list i 0) (wrote-after (w .so) p) }
 
   pub write-end : n ≤ i → Wrote (joined vbyte (part list from n)) at out₀ out to
   write-end h =

@@ -3,7 +3,7 @@ use Prim.Native.Nat.{ℕ, zero, suc, _+_, _-_, _≤_, _<_}
 use mathlib.Core.Path.{_≡_, refl, ap, _∙_}
 use mathlib.Core.List.{List, [], _∷_, _++_}
 use native.Mathlib.Nat.{add-zero}
-use native.Mathlib.Numerals.{add-one}
+use native.Mathlib.Numerals.{add-one, towards-suc}
 use native.Mathlib.Omega.{arith}
 use lib.ListN.{length, getD, drop, set, length-drop, length-set}
 use lib.Seq.{sets, length-sets, length-take-le, take-add, drop-drop, getD-take, getD-drop}
@@ -18,11 +18,11 @@ use Rattle.meaning.proofs.Bounds.{below-nil, below-cons, below-append}
 use Rattle.meaning.proofs.Codes.{spare-always}
 use Rattle.meaning.proofs.Stores.{sets-append, sets-snoc}
 use Rattle.meaning.proofs.Taking.{Takes, takes-start, takes-next, takes-end}
+use Rattle.leaves.proofs.Parts.{part-snoc, part-each}
 use Rattle.vbyte.specs.Numbers.{numberSays, numberAt, Ones}
 use Rattle.vbyte.specs.declared.Number.{Number}
 use Rattle.vbyte.specs.declared.Number.the-variants as number
-use Rattle.vbyte.proofs.Puts.{part-next}
-use Rattle.vbyte.proofs.Steps.{byte-at, number-one, unit-given}
+use Rattle.vbyte.proofs.Steps.{number-one, unit-given}
 
 -- ---- numbers of one byte: four at a time
 pub ones-none : (body : List ℕ) (at most from : ℕ) (work : List ℕ) → Ones body at most from work work 0
@@ -32,19 +32,14 @@ pub ones-four : (body : List ℕ) (at from : ℕ) (work : List ℕ) {a b c d : �
     → a ≡ getD body at 0 → b ≡ getD body (at + 1) 0 → c ≡ getD body (at + 2) 0 → d ≡ getD body (at + 3) 0 → a < 128 → b < 128 → c < 128 → d < 128
     → Ones body at 4 from work (set (set (set (set work from a) (from + 1) b) (from + 2) c) (from + 3) d) 4
 ones-four body at from work {a} {b} {c} {d} h ea eb ec ed la lb lc ld =
-    let from-d : drop (at + 3) body ≡ d ∷ drop (at + 4) body = byte-at body (at + 3) (omega arith) ed {next = at + 4} (omega arith) in
-    let from-c : drop (at + 2) body ≡ c ∷ drop (at + 3) body = byte-at body (at + 2) (omega arith) ec {next = at + 3} (omega arith) in
-    let from-b : drop (at + 1) body ≡ b ∷ drop (at + 2) body = byte-at body (at + 1) (omega arith) eb {next = at + 2} (omega arith) in
-    let is : part body at 4 ≡ a ∷ b ∷ c ∷ d ∷ [] = rw (byte-at body at (omega arith) ea refl, from-b, from-c, from-d) in
-    let two : from + 2 ≡ suc (suc from) = omega arith in
-    let three : from + 3 ≡ suc (suc (suc from)) = omega arith in
+    let is : part body at 4 ≡ a ∷ b ∷ c ∷ d ∷ [] = rw (ea, eb, ec, ed, part-each 4 body at h) (simp towards-suc refl) in
     record {
       few = omega arith;
       there = omega arith;
       low = rw is
           (below-cons 128 a (b ∷ c ∷ d ∷ []) la
           (below-cons 128 b (c ∷ d ∷ []) lb (below-cons 128 c (d ∷ []) lc (below-cons 128 d [] ld (below-nil 128 (omega arith))))));
-      here = rw (is, add-one from, two, three);
+      here = rw is (simp towards-suc refl);
     }
 
 part-long : (s : List ℕ) (at n : ℕ) → n ≤ length s - at → length (part s at n) ≡ n
@@ -100,7 +95,7 @@ module _ {body : List ℕ} {left : ℕ} {p : Position} {w₀ : List ℕ} {from :
         let low : x < 128 = rw (getD-take n (drop at body) k 0 l, getD-drop at body k 0) at (ones .low k) in
         let read = number-one body (at + k) inside refl refl low in
         let stored : set (sets w₀ from (part body at k)) (from + k) x ≡ sets w₀ from (part body at (k + 1)) =
-        rw (part-next body at k inside) (rw (part-long body at k (omega (arith, ones .there))) at (sets-snoc (part body at k) x w₀ from)) in
+        rw (part-snoc body at k inside) (rw (part-long body at k (omega (arith, ones .there))) at (sets-snoc (part body at k) x w₀ from)) in
         let next : at + k + 1 ≡ at + suc k = omega arith in
         rw (stored, next, add-one k) at (take-turn t (omega arith) (number.Read x (record { byte = at + k + 1 })) read refl)
 

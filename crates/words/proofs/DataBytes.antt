@@ -7,7 +7,7 @@ use native.Mathlib.Omega.{arith}
 use lib.Count.{leadingZeros, leading-length}
 use lib.Pow.{pow-mono}
 use lib.Dec.{eqb}
-use lib.ListN.{length, take, drop, length-append, length-drop}
+use lib.ListN.{length, take, drop, length-append, length-drop, length-map}
 use lib.Seq.{take-at, drop-at, take-add, length-take-le}
 use borrow.Author.Tests.{lt-ltb, le-ltb, eq-eqb, eqb-true}
 use Rattle.meaning.specs.Answer.{given}
@@ -38,8 +38,10 @@ held x =
     (λ a. by-order x (2 ^ 16)
     (λ b. rw (le-ltb x (2 ^ 8) a, lt-ltb x (2 ^ 16) b) (record { least = omega arith; most = omega arith; above = λ h. b; below = λ h. a }))
     (λ b. by-order x (2 ^ 24)
-    (λ c. rw (le-ltb x (2 ^ 8) a, le-ltb x (2 ^ 16) b, lt-ltb x (2 ^ 24) c) (record { least = omega arith; most = omega arith; above = λ h. c; below = λ h. b }))
-    (λ c. rw (le-ltb x (2 ^ 8) a, le-ltb x (2 ^ 16) b, le-ltb x (2 ^ 24) c) (record { least = omega arith; most = omega arith; above = λ h. h; below = λ h. c }))))
+    (λ c. rw (le-ltb x (2 ^ 8) a, le-ltb x (2 ^ 16) b, lt-ltb x (2 ^ 24) c)
+    (record { least = omega arith; most = omega arith; above = λ h. c; below = λ h. b }))
+    (λ c. rw (le-ltb x (2 ^ 8) a, le-ltb x (2 ^ 16) b, le-ltb x (2 ^ 24) c)
+    (record { least = omega arith; most = omega arith; above = λ h. h; below = λ h. c }))))
 
 pub few-length : (x : ℕ) → length (fewest x) ≡ byteLength x
 unfolding fewest
@@ -87,6 +89,19 @@ data-written (x ∷ xs) rest h =
     let d : drop (byteLength x) ((fewest x ++ joined fewest xs) ++ rest) ≡ joined fewest xs ++ rest =
     rw (append-assoc (fewest x) (joined fewest xs) rest) (drop-at (fewest x) (joined fewest xs ++ rest) (byteLength x) (few-length x)) in
     rw (t, d, few-number x (h 0), eq-eqb (byteLength x) (byteLength x) refl, data-written xs rest (λ i. h (suc i)))
+
+-- ---- read and written back: the numbers have the lengths of their fields, and are as many
+pub data-lengths : (ls bytes xs : List ℕ) → dataIn ls bytes ≡ given xs → map byteLength xs ≡ ls
+unfolding dataIn
+data-lengths [] bytes xs e = let is : [] ≡ xs = cc in rw (← is)
+data-lengths (l ∷ ls) bytes xs e =
+    let (t, e₁) = need-given (eqb (byteLength (numberOf (take l bytes))) l) fault _ xs e in
+    let (ys, ey, e₂) = bind-given (dataIn ls (drop l bytes)) _ xs e₁ in
+    let is : numberOf (take l bytes) ∷ ys ≡ xs = cc in
+    sym (ap (map byteLength) is) ∙ ap₂ (λ (n : ℕ) (r : List ℕ). n ∷ r) (eqb-true _ l t) (data-lengths ls (drop l bytes) ys ey)
+
+pub data-many : (ls bytes xs : List ℕ) → dataIn ls bytes ≡ given xs → length xs ≡ length ls
+data-many ls bytes xs e = sym (length-map xs byteLength) ∙ ap length (data-lengths ls bytes xs e)
 
 -- what a list says that was read from data of lengths ls
 pub record FieldsAre (ls bytes xs : List ℕ) : Type 0 where
@@ -159,7 +174,8 @@ module _ (x : ℕ) (h : x < 2 ^ 32) where
       by-order 16 m
       (λ b. let q : 2 ^ 16 ≤ x = omega (arith, pow-mono {i = 17} {j = m} b) in
       by-order 24 m
-      (λ c. let r : 2 ^ 24 ≤ x = omega (arith, pow-mono {i = 25} {j = m} c) in simp (le-ltb x (2 ^ 8) p, le-ltb x (2 ^ 16) q, le-ltb x (2 ^ 24) r) (omega arith))
+      (λ c. let r : 2 ^ 24 ≤ x = omega (arith, pow-mono {i = 25} {j = m} c) in
+      simp (le-ltb x (2 ^ 8) p, le-ltb x (2 ^ 16) q, le-ltb x (2 ^ 24) r) (omega arith))
       (λ c. let r : x < 2 ^ 24 = fits m 24 lo c in simp (le-ltb x (2 ^ 8) p, le-ltb x (2 ^ 16) q, lt-ltb x (2 ^ 24) r) (omega arith)))
       (λ b. let q : x < 2 ^ 16 = fits m 16 lo b in simp (le-ltb x (2 ^ 8) p, lt-ltb x (2 ^ 16) q) (omega arith)))
       (λ a. let p : x < 2 ^ 8 = fits m 8 lo a in simp (lt-ltb x (2 ^ 8) p) (omega arith))

@@ -16,7 +16,7 @@ use Rattle.meaning.specs.Plan.{defaultPlan, planUsed}
 use Rattle.meaning.specs.Sheet.{Entry, planIn, countIn, sizeIn, entryBytes}
 use Rattle.meaning.proofs.Stores.{sets-append}
 use Rattle.words.proofs.Words.{word-length}
-use Rattle.stages.proofs.Parts.{part-length}
+use Rattle.leaves.proofs.Parts.{part-length}
 use Rattle.stages.proofs.Copies.{copy-whole}
 
 -- ---- 15 zeros mean the default

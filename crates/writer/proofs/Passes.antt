@@ -11,7 +11,7 @@ use Rattle.meaning.specs.Places.{part}
 use Rattle.meaning.specs.Plan.{planUsed}
 use Rattle.meaning.specs.Sheet.{Listed, columnFor, entryOf, sheetBytes}
 use Rattle.meaning.specs.declared.Offset.{Offset}
-use Rattle.stages.proofs.Parts.{part-length}
+use Rattle.leaves.proofs.Parts.{part-length}
 use Rattle.table.specs.Offsets.{entryOffset}
 use Rattle.writer.specs.Orders.{blankListed, columnsBy, listStart, planGiven, listedAt, Ordered, Laid, Room, ColumnPut, entryLaid}
 use Rattle.writer.proofs.Columns.{column-count, column-is}

@@ -2,7 +2,8 @@
 use Prim.Native.Nat.{_+_, _-_}
 use native.Mathlib.Omega.{arith}
 use Rattle.groups.specs.Parts.{groupsOf}
-use Rattle.groups.proofs.Puts.{PutSo, put-start, put-turn, put-end, put-long, put-after, put-one, groups-none, groups-turn, groups-room}
+use Rattle.leaves.proofs.Parts.{wrote-after}
+use Rattle.groups.proofs.Puts.{PutSo, put-start, put-turn, put-end, put-long, put-one, groups-none, groups-turn, groups-room}
 use borrow.Author.Needs.{needs}
 use Rattle.groups.proofs.write_groups.Statement.{statement}
 use Rattle.groups.proofs.write_groups.Tie as tie
@@ -57,7 +58,7 @@ loop-again c =
     let next =
     groups-turn (a .list .now) (a .from .number + l .i) (a .n - l .i) (omega arith) (omega (arith, start .pre .inside)) (count .lesser .result) most in
     put-turn (l .inv) (count .lesser .result) (omega arith) next
-    (put-after (put-one (head .put .ensures) (control .control-of .ensures)) (dataBytes .put-data .ensures))
+    (wrote-after (put-one (head .put .ensures) (control .control-of .ensures)) (dataBytes .put-data .ensures))
 
 same-length : tie.Need-same-length Inv-loop μ-loop
 same-length c = put-long (c .before .loop .inv)

@@ -1,7 +1,8 @@
 -- All control bytes, and then all data. Assumes nothing.
 use native.Mathlib.Omega.{arith}
 use Rattle.meaning.specs.Groups.{writeStream}
-use Rattle.groups.proofs.Puts.{put-after, controls-bound}
+use Rattle.leaves.proofs.Parts.{wrote-after}
+use Rattle.groups.proofs.Puts.{controls-bound}
 use borrow.Author.Needs.{needs}
 use Rattle.groups.proofs.write_stream.Statement.{statement}
 use Rattle.groups.proofs.write_stream.Tie as tie
@@ -19,7 +20,7 @@ unfolding writeStream
 returns c =
     let dataBytes : tie.After-put-data = search in
     let controls : tie.After-put-controls = search in
-    put-after (controls .put-controls .ensures) (dataBytes .put-data .ensures)
+    wrote-after (controls .put-controls .ensures) (dataBytes .put-data .ensures)
 
 pub write-stream-spec : {M : Type 1} → statement M
 write-stream-spec =

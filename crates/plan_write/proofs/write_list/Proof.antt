@@ -3,7 +3,7 @@ use native.Mathlib.Nat.{zero-add}
 use native.Mathlib.Omega.{arith}
 use borrow.Author.Needs.{needs}
 use Rattle.meaning.specs.Plan.{planOf}
-use Rattle.plan_write.proofs.Steps.{top-room}
+use Rattle.stages.proofs.Rooms.{top-room}
 use Rattle.plan_write.proofs.write_list.Statement.{statement}
 use Rattle.plan_write.proofs.write_list.Tie as tie
 
