@@ -10,7 +10,8 @@ use lib.Seq.{drop-drop, getD-drop}
 use Rattle.meaning.specs.Bytes.{wordAt}
 use Rattle.meaning.specs.Limits.{planBytes}
 use Rattle.meaning.specs.Lists.{sum}
-use Rattle.meaning.specs.Sheet.{entrySize, planIn, countIn, sizeIn, entryIn, Column, columnsIn, editionOf, columnCount, tableSize, columnsOf, columnAt, bodyBegins}
+use Rattle.meaning.specs.Sheet.{entrySize, planIn, countIn, sizeIn, entryIn, Column, columnsIn}
+use Rattle.meaning.specs.Sheet.{editionOf, columnCount, tableSize, columnsOf, columnAt, bodyBegins}
 use Rattle.meaning.proofs.Tests.{by-order}
 use Rattle.words.proofs.Words.{word-drop}
 use Rattle.table.specs.Offsets.{entryOffset, planOffset, sizeAt, sizesBefore, bodyOffset, blankColumn, columnBy}

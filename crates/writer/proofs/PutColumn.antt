@@ -21,7 +21,8 @@ module _ {plan w : List ℕ} {n slot at : ℕ} (room : Room plan (length w) n sl
 
   -- a body whose entry was put after it
   pub put-whole : {kind count size : ℕ} {o₂ : List ℕ} → count ≡ n → size ≡ end .byte - at
-      → o₂ ≡ sets o₁ slot (entryBytes 1 (record { kind = kind; plan = plan; count = count; size = size })) → ColumnPut (record { kind = kind; plan = plan; numbers = take n w }) slot at o o₂ end
+      → o₂ ≡ sets o₁ slot (entryBytes 1 (record { kind = kind; plan = plan; count = count; size = size }))
+      → ColumnPut (record { kind = kind; plan = plan; numbers = take n w }) slot at o o₂ end
   put-whole {kind} {count} {size} ec es e =
       let many : count ≡ length (take n w) = omega (arith, length-take-le n w (omega (arith, room .scratch))) in
       let long : size ≡ length (write (planOf plan) (take n w)) = omega (arith, body .ends) in

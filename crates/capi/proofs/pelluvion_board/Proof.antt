@@ -23,14 +23,18 @@ same-length c = search needs
 
 returns : tie.Need-returns
 returns c =
-    tallies-given _ _ (ap countedSays (sym (c .before .counted .given .1)) ∙ c .before .before .before .before .before .board .ensures)
+    let told : tie.After-counted = search in
+    let asked : tie.After-board = search in
+    tallies-given _ _ (ap countedSays (sym (told .counted .given .1)) ∙ asked .board .ensures)
 
 same-length-2 : tie.Need-same-length-2
 same-length-2 c = search needs
 
 returns-2 : tie.Need-returns-2
 returns-2 c =
-    tallies-none _ _ _ _ (ap countedSays (sym (c .before .before .counted2 .given .1)) ∙ c .before .before .before .before .before .before .board .ensures) (c .wide .ensures .0)
+    let told : tie.After-counted2 = search in
+    let asked : tie.After-board = search in
+    tallies-none _ _ _ _ (ap countedSays (sym (told .counted2 .given .1)) ∙ asked .board .ensures) (c .wide .ensures .0)
 
 pub pelluvion-board-spec : {M : Type 1} → statement M
 pelluvion-board-spec =

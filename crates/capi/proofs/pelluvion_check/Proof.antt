@@ -23,14 +23,17 @@ same-length c = search needs
 
 returns : tie.Need-returns
 returns c =
-    blames-none _ (ap checkedSays (sym (c .enum-told .given .1)) ∙ c .before .before .before .before .check .ensures)
+    let asked : tie.After-check = search in
+    blames-none _ (ap checkedSays (sym (c .enum-told .given .1)) ∙ asked .check .ensures)
 
 same-length-2 : tie.Need-same-length-2
 same-length-2 c = search needs
 
 returns-2 : tie.Need-returns-2
 returns-2 c =
-    blames-one _ _ _ _ (ap checkedSays (sym (c .before .before .checked .given .1)) ∙ c .before .before .before .before .before .before .check .ensures) (c .wide .ensures .0)
+    let told : tie.After-checked = search in
+    let asked : tie.After-check = search in
+    blames-one _ _ _ _ (ap checkedSays (sym (told .checked .given .1)) ∙ asked .check .ensures) (c .wide .ensures .0)
 
 pub pelluvion-check-spec : {M : Type 1} → statement M
 pelluvion-check-spec =

@@ -19,13 +19,21 @@ wide-requires c κs = search needs
 
 returns : tie.Need-returns
 returns c =
-    let a = c .before .before .before .before .before .before .args in
-    fetches-body (a .sheet .now) (a .column) _ (opened-by (a .sheet .now) (a .column) _ _ (c .before .before .before .before .column-at .ensures) (c .before .before .found .given .1))
+    let told : tie.After-found = search in
+    let asked : tie.After-column-at = search in
+    let start : tie.Start = search in
+    let sheet = start .args .sheet .now in
+    let column = start .args .column in
+    fetches-body sheet column _ (opened-by sheet column _ _ (asked .column-at .ensures) (told .found .given .1))
 
 returns-2 : tie.Need-returns-2
 returns-2 c =
-    let a = c .before .before .before .before .before .before .args in
-    fetches-none (a .sheet .now) (a .column) _ _ (refused-by (a .sheet .now) (a .column) _ _ (c .before .before .before .before .column-at .ensures) (c .before .before .found2 .given .1)) (c .wide .ensures .0)
+    let told : tie.After-found2 = search in
+    let asked : tie.After-column-at = search in
+    let start : tie.Start = search in
+    let sheet = start .args .sheet .now in
+    let column = start .args .column in
+    fetches-none sheet column _ _ (refused-by sheet column _ _ (asked .column-at .ensures) (told .found2 .given .1)) (c .wide .ensures .0)
 
 pub pelluvion-fetch-spec : {M : Type 1} → statement M
 pelluvion-fetch-spec =

@@ -20,11 +20,15 @@ wide-requires c κs = search needs
 
 returns : tie.Need-returns
 returns c =
-    tells-given _ _ (ap sizedSays (sym (c .before .sized .given .1)) ∙ c .before .before .before .worst-size .ensures)
+    let told : tie.After-sized = search in
+    let asked : tie.After-worst-size = search in
+    tells-given _ _ (ap sizedSays (sym (told .sized .given .1)) ∙ asked .worst-size .ensures)
 
 returns-2 : tie.Need-returns-2
 returns-2 c =
-    tells-refused _ _ _ (ap sizedSays (sym (c .before .before .sized2 .given .1)) ∙ c .before .before .before .before .worst-size .ensures) (c .wide .ensures .0)
+    let told : tie.After-sized2 = search in
+    let asked : tie.After-worst-size = search in
+    tells-refused _ _ _ (ap sizedSays (sym (told .sized2 .given .1)) ∙ asked .worst-size .ensures) (c .wide .ensures .0)
 
 pub pelluvion-worst-spec : {M : Type 1} → statement M
 pelluvion-worst-spec =
