@@ -104,16 +104,16 @@ pub data-many : (ls bytes xs : List ℕ) → dataIn ls bytes ≡ given xs → le
 data-many ls bytes xs e = sym (length-map xs byteLength) ∙ ap length (data-lengths ls bytes xs e)
 
 -- what a list says that was read from data of lengths ls
-pub record FieldsAre (ls bytes xs : List ℕ) : Type 0 where
+pub record DataIs (ls bytes xs : List ℕ) : Type 0 where
   pub lengths : map byteLength xs ≡ ls
   pub is : take (sum ls) bytes ≡ dataBytes xs
   pub small : Below numberLimit xs
 
--- a first field more
-field-more : (l : ℕ) (ls bytes xs : List ℕ) → Below 256 bytes → l ≤ length bytes → byteLength (numberOf (take l bytes)) ≡ l → FieldsAre ls (drop l bytes) xs
-    → FieldsAre (l ∷ ls) bytes (numberOf (take l bytes) ∷ xs)
+-- a first number more
+number-more : (l : ℕ) (ls bytes xs : List ℕ) → Below 256 bytes → l ≤ length bytes → byteLength (numberOf (take l bytes)) ≡ l → DataIs ls (drop l bytes) xs
+    → DataIs (l ∷ ls) bytes (numberOf (take l bytes) ∷ xs)
 unfolding dataBytes joined sum fewest
-field-more l ls bytes xs h fits e f =
+number-more l ls bytes xs h fits e f =
     let x = numberOf (take l bytes) in
     let n : length (take l bytes) ≡ l = length-take-le l bytes fits in
     let b = below-take 256 l bytes h in
@@ -133,17 +133,17 @@ field-more l ls bytes xs h fits e f =
     four (suc (suc (suc (suc zero)))) x m g = g
     four (suc (suc (suc (suc (suc k))))) x m g = absurd (omega arith)
 
-pub data-back : (ls bytes xs : List ℕ) → Below 256 bytes → sum ls ≤ length bytes → dataIn ls bytes ≡ given xs → FieldsAre ls bytes xs
+pub data-back : (ls bytes xs : List ℕ) → Below 256 bytes → sum ls ≤ length bytes → dataIn ls bytes ≡ given xs → DataIs ls bytes xs
 unfolding dataIn sum dataBytes joined
 data-back [] bytes xs h fits e =
     let is : [] ≡ xs = cc in
-    subst (FieldsAre [] bytes) is (record { lengths = refl; is = refl; small = below-nil numberLimit (omega arith) })
+    subst (DataIs [] bytes) is (record { lengths = refl; is = refl; small = below-nil numberLimit (omega arith) })
 data-back (l ∷ ls) bytes xs h fits e =
     let (t, e₁) = need-given (eqb (byteLength (numberOf (take l bytes))) l) fault _ xs e in
     let (ys, ey, e₂) = bind-given (dataIn ls (drop l bytes)) _ xs e₁ in
     let is : numberOf (take l bytes) ∷ ys ≡ xs = cc in
-    subst (FieldsAre (l ∷ ls) bytes) is
-    (field-more l ls bytes ys h (omega arith) (eqb-true _ l t)
+    subst (DataIs (l ∷ ls) bytes) is
+    (number-more l ls bytes ys h (omega arith) (eqb-true _ l t)
     (data-back ls (drop l bytes) ys (below-drop 256 l bytes h) (omega (arith, length-drop l bytes)) ey))
 
 -- whatever data is refused by is a fault
