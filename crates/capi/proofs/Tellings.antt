@@ -1,10 +1,11 @@
 -- What is told, from what the operation answered, over plain variables. Assumes nothing.
 use Prim.Native.Nat.{ℕ}
-use mathlib.Core.Path.{_≡_, refl, ap, _∙_}
+use mathlib.Core.Path.{_≡_, ap, _∙_}
 use mathlib.Core.List.{List}
 use Rattle.meaning.specs.Answer.{Answer, given, refused, number, amount, filled, Verdict, passed, blamed}
 use Rattle.meaning.specs.Operations.{noTally}
 use Rattle.meaning.specs.declared.Tally.{Tally}
+use Rattle.meaning.proofs.Answers.{amount-number}
 use Rattle.capi.specs.Told.{value, refusal, faulty, Tells, TellsList, Blames, Tallies}
 
 -- ---- one number
@@ -16,17 +17,12 @@ module _ (a : Answer ℕ) where
   tells-refused e r q h = record { returned = h ∙ ap number q; told = ap value q }
 
 -- ---- a list
--- its amount is refused as it is
-of-amount : (a : Answer (List ℕ)) → number (amount a) ≡ number a
-of-amount (given xs) = refl
-of-amount (refused e) = refl
-
 module _ (a : Answer (List ℕ)) (out out′ : List ℕ) (here : out′ ≡ filled a out) where
   pub fills-given : (n : ℕ) → given n ≡ amount a → TellsList a 0 n out out′
-  fills-given n e = record { returned = ap number e ∙ of-amount a; told = ap value e; here = here }
+  fills-given n e = record { returned = ap number e ∙ amount-number a; told = ap value e; here = here }
 
   pub fills-refused : (e r : ℕ) → refused e ≡ amount a → r ≡ e → TellsList a r 0 out out′
-  fills-refused e r q h = record { returned = h ∙ ap number q ∙ of-amount a; told = ap value q; here = here }
+  fills-refused e r q h = record { returned = h ∙ ap number q ∙ amount-number a; told = ap value q; here = here }
 
 -- ---- a verdict
 module _ (v : Verdict) where

@@ -7,6 +7,7 @@ use native.Mathlib.Omega.{arith}
 use lib.Dec.{leb}
 use Rattle.meaning.specs.Answer.{Answer, given, refused, number, list, amount, filled, Verdict}
 use Rattle.meaning.specs.Lists.{all}
+use Rattle.meaning.proofs.Answers.{amount-number}
 use Rattle.demands.specs.Contracts.{Fills}
 use Rattle.demands.specs.Demands.{Answers}
 use Rattle.demands.specs.Refusals.{RefusesBy, BlamesBy, verdictOf, refusal}
@@ -21,10 +22,6 @@ verdict-by es (refused e) h = h
 verdict-number : {B : Type 0} (m : Answer B) → number m ≡ refusal (verdictOf m)
 verdict-number (given b) = refl
 verdict-number (refused e) = refl
-
-amount-number : (m : Answer (List ℕ)) → number (amount m) ≡ number m
-amount-number (given xs) = refl
-amount-number (refused e) = refl
 
 -- after a refusal an output is as it was, and a list is empty
 refused-keeps : (m : Answer (List ℕ)) (o : List ℕ) → 0 < number m → filled m o ≡ o

@@ -2,8 +2,9 @@
 use Prim.Native.Nat.{ℕ}
 use mathlib.Core.Path.{_≡_, refl}
 use mathlib.Core.Bool.{Bool, true, false, cond}
+use mathlib.Core.List.{List}
 use native.Mathlib.Omega.{arith}
-use Rattle.meaning.specs.Answer.{Answer, given, refused, bind, need}
+use Rattle.meaning.specs.Answer.{Answer, given, refused, bind, need, number, amount}
 use Rattle.meaning.specs.Limits.{fault}
 
 pub not-given : {A : Type 0} (e : ℕ) (a : A) → refused e ≡ given a → ⊥
@@ -24,6 +25,11 @@ module _ {A : Type 0} where
   pub need-given : (b : Bool) (e : ℕ) (m : Answer A) (a : A) → need b e m ≡ given a → (b ≡ true) × (m ≡ given a)
   need-given true e m a q = (refl, q)
   need-given false e m a q = absurd (not-given e a q)
+
+-- a list's amount is refused as the list is
+pub amount-number : (m : Answer (List ℕ)) → number (amount m) ≡ number m
+amount-number (given xs) = refl
+amount-number (refused e) = refl
 
 -- the one refusal of a body is 9
 abbrev pub Faulty : {A : Type 0} → Answer A → Type 0
