@@ -26,7 +26,11 @@ module _ (part : List ℕ) (k : ℕ) where
     pub told : answer s ≡ callOver part k n
     pub place : (x : ℕ) → callOver part k n ≡ given x → s .place ≡ n
 
-  pub begins : Reached 0 (record { part = part; column = k; place = 0 })
+  -- where a reader starts
+  abbrev start : Standing
+  start = record { part = part; column = k; place = 0 }
+
+  pub begins : Reached 0 start
   unfolding callOver
   begins = record { here = refl; same = refl; told = refl; place = λ x e. refl }
 
@@ -49,7 +53,8 @@ module _ (part : List ℕ) (k : ℕ) where
 
   goes-on : (n : ℕ) (s : Standing) → Reached n s → (a : Answer ℕ) → callOver part k n ≡ a → Reached (suc n) (next s)
   goes-on n s r (given x) e =
-      let at : nextPlace (answer s) (s .place) ≡ suc n = ap (λ (a : Answer ℕ). nextPlace a (s .place)) (r .told ∙ e) ∙ (ap (λ (p : ℕ). p + 1) (r .place x e) ∙ add-one n) in
+      let moves : nextPlace (answer s) (s .place) ≡ s .place + 1 = ap (λ (a : Answer ℕ). nextPlace a (s .place)) (r .told ∙ e) in
+      let at : nextPlace (answer s) (s .place) ≡ suc n = moves ∙ (ap (λ (p : ℕ). p + 1) (r .place x e) ∙ add-one n) in
       record {
         here = r .here;
         same = r .same;
@@ -65,15 +70,15 @@ module _ (part : List ℕ) (k : ℕ) where
         place = λ y f. absurd (not-given z y (sym (again n z e) ∙ f));
       }
 
-  pub reached : (n : ℕ) → Reached n (after n (record { part = part; column = k; place = 0 }))
+  pub reached : (n : ℕ) → Reached n (after n start)
   unfolding after
   reached zero = begins
-  reached (suc n) = goes-on n (after n (record { part = part; column = k; place = 0 })) (reached n) (callOver part k n) refl
+  reached (suc n) = goes-on n (after n start) (reached n) (callOver part k n) refl
 
   -- ---- no more calls than a column can have numbers: by then one was refused
   found-most : (x : ℕ) → callOver part k mostNumbers ≡ given x → ⊥
   found-most x e =
-      let s = after mostNumbers (record { part = part; column = k; place = 0 }) in
+      let s = after mostNumbers start in
       let r = reached mostNumbers in
       let below : s .place < mostNumbers = found-below (s .part) (s .column) (s .place) x (r .told ∙ e) in
       omega (arith, below, r .place x e)

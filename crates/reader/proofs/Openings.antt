@@ -16,6 +16,7 @@ use Rattle.meaning.specs.declared.Found.{Found}
 use Rattle.meaning.proofs.Answers.{bind-given, need-given}
 use Rattle.table.proofs.ColumnLaws.{column-there, column-here}
 use Rattle.table.proofs.Sounds.{sound-column}
+use Rattle.reader.specs.Steps.{nextPlace}
 
 module _ (sheet : List ℕ) (k : ℕ) where
   pub open-there : (c : Column) → column sheet k ≡ given c → openReader sheet k ≡ given sheet
@@ -41,10 +42,18 @@ module _ (sheet : List ℕ) (k : ℕ) where
   pub found-below : (place x : ℕ) → lookSheet sheet k place ≡ given x → place < mostNumbers
   unfolding lookSheet
   found-below place x e =
-      let (c, told, e₁) = bind-given (column sheet k) (λ (c : Column). need (ltb place (c .count)) noPlace (look (planOf (c .plan)) (c .body) (c .count) place)) x e in
-      let (below, _) = need-given (ltb place (c .count)) noPlace (look (planOf (c .plan)) (c .body) (c .count) place) x e₁ in
+      let looked : Column → Answer ℕ = λ c. look (planOf (c .plan)) (c .body) (c .count) place in
+      let (c, told, e₁) = bind-given (column sheet k) (λ (c : Column). need (ltb place (c .count)) noPlace (looked c)) x e in
+      let (below, _) = need-given (ltb place (c .count)) noPlace (looked c) x e₁ in
       omega (arith, ltb-true place (c .count) below, count-few c told)
 
   -- what a lookup says, by the answer's case
   pub told-by : (place : ℕ) (r x : Found) → foundSays r ≡ lookSheet sheet k place → r ≡ x → lookSheet sheet k place ≡ foundSays x
   told-by place r x e q = sym e ∙ ap foundSays q
+
+  -- and with it the place after it
+  pub told-next : (place : ℕ) (r x : Found) → foundSays r ≡ lookSheet sheet k place → r ≡ x
+      → (foundSays x ≡ lookSheet sheet k place) × (nextPlace (foundSays x) place ≡ nextPlace (lookSheet sheet k place) place)
+  told-next place r x e q =
+      let f = told-by place r x e q in
+      (sym f, sym (ap (λ (l : Answer ℕ). nextPlace l place) f))

@@ -19,7 +19,7 @@ use contract.Monad.{Fun}
 use contract.Running.{givenOf, tables, tablesOf}
 use types.Kit.{Given, ‵, _$_, !, move, keep, drop, rewrite, fsplit, feqL, done}
 use types.Part.{whole, sub, look-in, agg}
-use types.Run.{look, init, stop, hop, fld, from, load, addr, and-then, no-more, returns, enter, alloc0, params1, pass1, pass0, free0}
+use types.Run.{look, init, stop, hop, fld, from, addr, and-then, returns, enter, alloc0, params1, pass1, pass0, free0}
 use sound.WpLaws.{fmOf, WpFn-mono}
 use denote.Builtin.{u8, u32}
 use denote.Ref.{RefT, now}
@@ -39,7 +39,7 @@ use Rattle.meaning.proofs.Sized as E
 use Rattle.meaning.proofs.Sized.Laws as E′
 use Rattle.orders.specs.Gathering.{gathered, writeGathered}
 use Rattle.orders.proofs.Gathers.{Told, told}
-use Rattle.leaves.proofs.Walking.{begins, alloc2, val, slice-fits, read, sets, gets, gone, doubles, asks, ends}
+use Rattle.leaves.proofs.Walking.{begins, alloc2, val, slice-fits, one, two, three, read, read-field, sets, gets, gone, doubles, asks, ends}
 use Rattle.orders.specs.declared.Order.{Order}
 use Rattle.orders.specs.declared.gathering.Gathered.{Gathered}
 use Rattle.orders.proofs.Order as T
@@ -113,20 +113,20 @@ module _ {M : Type 1} (𝓤 : URA M) (H : Heap 𝓤) (A : Atoms 𝓤) (W : Given
           -- [_9; …; _0; …; four tokens; what orders owns; joined's; work's; out's]
           move ! (24 ∷ []) $ doubles ! (named 0) (κs .0) T.the-row s (val s ∷ []) $ move ! (22 ∷ 0 ∷ []) $
           asks W gather.ended (gather.clauses 𝓤 H A mem run) (κs .0, tt) (qs .0, tt) (s, tt) (val s ∷ [], tt) tt tt ! fm known-gather (id⊢ 𝓤 _)
-          (and-then ! (read ! 18 refl) (no-more !)) (λ r ws. r ≡ Gs) (λ r ws. id⊢ 𝓤 _) (λ u r ws e is. drop ! $
+          (one ! (read ! 18 refl)) (λ r ws. r ≡ Gs) (λ r ws. id⊢ 𝓤 _) (λ u r ws e is. drop ! $
           -- [what g owns; the first token; what orders owns; _9; …; _0; …; three tokens; joined's; work's; out's]
           gets ! (init ! 11 refl (LL.lawful S.the-type S′.the-laws 𝓤 H A W .typed r _ is .0)) $
           rewrite ! 0 (λ (d : Gathered). ‵ (S.the-row .own d (u ∷ []))) e refl $
           sets ! (addr ! (from ! (fld ! refl (hop ! (look-in ! 15 (sub ! 0 refl (whole !))) (stop !))))) (init ! 9 refl (tt, tt)) $
-          sets ! (agg ! (and-then ! (read ! 9 refl) (and-then ! (load ! (from ! (fld ! refl (stop !))) (look-in ! 15 (sub ! 1 refl (whole !)))) (no-more !))))
+          sets ! (agg ! (two ! (read ! 9 refl) (read-field ! refl (look-in ! 15 (sub ! 1 refl (whole !))))))
           (init ! 7 refl (slice-fits (gw .0))) $
           sets ! (addr ! (from ! (fld ! refl (hop ! (look-in ! 13 (sub ! 0 refl (whole !))) (stop !))))) (init ! 5 refl (tt, tt)) $
-          sets ! (agg ! (and-then ! (read ! 5 refl) (and-then ! (load ! (from ! (fld ! refl (stop !))) (look-in ! 13 (sub ! 1 refl (whole !)))) (no-more !))))
+          sets ! (agg ! (two ! (read ! 5 refl) (read-field ! refl (look-in ! 13 (sub ! 1 refl (whole !))))))
           (init ! 3 refl (slice-fits (go .0))) $
           move ! (26 ∷ []) $ doubles ! (named 1) (κs .1 .0) u32 j (val j ∷ []) $ move ! (25 ∷ 26 ∷ 27 ∷ 2 ∷ 0 ∷ 28 ∷ 29 ∷ []) $
           -- [three tokens; what g owns; joined's; work's; out's; joined's; the first token; what orders owns; _9; …; _0; …]
           asks W inner.ended (inner.clauses 𝓤 H A mem run) (κs .1) (qs .1) (Gs, args .1) (u ∷ [], at .1) tt tt ! fm known-inner (id⊢ 𝓤 _)
-          (and-then ! (read ! 12 refl) (and-then ! (read ! 18 refl) (and-then ! (read ! 8 refl) (and-then ! (read ! 4 refl) (no-more !)))))
+          (and-then ! (read ! 12 refl) (three ! (read ! 18 refl) (read ! 8 refl) (read ! 4 refl)))
           (λ r′ zs. Said r′ (zs .1 .1 .1 .0)) (λ r′ zs. id⊢ 𝓤 _) (λ u′ r′ zs e′ is′.
           fsplit ! $ drop ! $ fsplit ! $ drop ! $ fsplit ! $ fsplit ! $ move ! (1 ∷ []) $ feqL ! (λ lw.
           move ! (1 ∷ []) $ fsplit ! $ fsplit ! $ move ! (1 ∷ []) $ feqL ! (λ lo.

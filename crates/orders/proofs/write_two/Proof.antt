@@ -1,4 +1,5 @@
--- `orders::write_two` meets its contract: a walk of its MIR, by hand. The two orders are put into a local array, which is lent as a slice for a lifetime that is made for the call, and comes back as the array.
+-- `orders::write_two` meets its contract: a walk of its MIR, by hand. The two orders are put into a local array, which is lent as a slice for a lifetime
+-- that is made for the call, and comes back as the array.
 -- All that the proof knows of `write` is that it meets its contract.
 -- Assumes nothing.
 use mathlib.Core.Path.{refl}
@@ -21,7 +22,7 @@ use contract.Monad.{Fun}
 use contract.Running.{givenOf, tables, tablesOf}
 use types.Kit.{Given, ‵, _⊛_, some, later, _$_, _∵_, !, qed, by, move, keep, use1, drop, split, pick, fsplit, fjoin, fpick, fpack, feqL, await, done}
 use types.Part.{whole, sub, look-in, agg}
-use types.Run.{look, init, forget, stop, hop, fld, from, load, lit, addr, and-then, no-more, returns, enter, alloc1, alloc0, params1, pass1, pass0, free0}
+use types.Run.{look, init, forget, stop, hop, fld, from, lit, addr, and-then, returns, enter, alloc1, alloc0, params1, pass1, pass0, free0}
 use types.Share.{arr-parts}
 use types.Tokens.{lft-new, lft-end, lent-back}
 use sound.WpLaws.{fmOf, WpFn-mono}
@@ -52,7 +53,7 @@ use Rattle.meaning.proofs.Sized as E
 use Rattle.meaning.proofs.Sized.Laws as E′
 use Rattle.orders.specs.Orders.{orderSays}
 use Rattle.orders.proofs.Gathers.{Told}
-use Rattle.leaves.proofs.Walking.{begins, alloc2, val, slice-fits, read, sets, gets, freed, gone, doubles, asks, ends}
+use Rattle.leaves.proofs.Walking.{begins, alloc2, val, slice-fits, two, three, address, read, read-field, sets, gets, freed, gone, doubles, asks, ends}
 use Rattle.orders.specs.declared.Order.{Order}
 use Rattle.orders.proofs.Order as T
 use Rattle.orders.proofs.Order.Laws as T′
@@ -75,8 +76,13 @@ abbrev bytes : Slot 3
 bytes = plain (λ _. u8)
 
 abbrev stayed : Stays (write-two.ended .signature .params) (write-two.ended .kept)
-stayed =
-    (stay-none order yes, (stay-none order yes, (stay-none-slice (0 ∷ []) tt numbers yes, (gave-slice (1 ∷ []) tt numbers, (gave-slice (2 ∷ []) tt bytes, tt)))))
+stayed = (
+  stay-none order yes,
+  (
+    stay-none order yes,
+    (stay-none-slice (0 ∷ []) tt numbers yes, (gave-slice (1 ∷ []) tt numbers, (gave-slice (2 ∷ []) tt bytes, tt))),
+  ),
+)
 
 -- the array's type: as a row, and in MIR
 abbrev Rows : RattleType
@@ -88,39 +94,49 @@ rows = tyArray T′.mir 2
 abbrev orderVal : Order → Val
 orderVal a = LL.tuple-val T.the-type T′.the-laws (T.the-type .to a)
 
+-- a machine value is that of an order
+abbrev Held : Order → Type 0
+Held a = Is T.the-row a (orderVal a ∷ [])
+
+-- two orders in an array
+module _ (a b : Order) where
+  abbrev ys : List Order
+  ys = a ∷ b ∷ []
+
+  -- their machine value
+  abbrev vys : Val
+  vys = vstruct (vcons (orderVal a) (vcons (orderVal b) vnil))
+
+  is : Held a → Held b → Is Rows ys (vys ∷ [])
+  is isa isb = (orderVal a ∷ orderVal b ∷ [], ((refl, refl), (isa, (isb, tt))))
+
+  -- they lie in memory, at l
+  abbrev Lie : ℕ → Fml
+  Lie l = arr-parts (shares T.the-row) 2 .part fullShare ys l 0
+
 module _ {M : Type 1} (𝓤 : URA M) (H : Heap 𝓤) (A : Atoms 𝓤) (W : Given 𝓤 H A) where
-  module _ (a b : Order) (isa : Is T.the-row a (orderVal a ∷ [])) (isb : Is T.the-row b (orderVal b ∷ [])) where
-    -- the array, and its machine value
-    abbrev ys : List Order
-    ys = a ∷ b ∷ []
+  module _ (a b : Order) (l : ℕ) where
+    -- the array's cell
+    abbrev Cell : Fml
+    Cell = fat fullShare rows l 0 (vys a b)
 
-    abbrev vys : Val
-    vys = vstruct (vcons (orderVal a) (vcons (orderVal b) vnil))
-
-    is : Is Rows ys (vys ∷ [])
-    is = (orderVal a ∷ orderVal b ∷ [], ((refl, refl), (isa, (isb, tt))))
-
-    -- the elements in memory, at l
-    abbrev Lie : ℕ → Fml
-    Lie l = arr-parts (shares T.the-row) 2 .part fullShare ys l 0
-
-    comes-in : (l : ℕ) → ent 𝓤 (sem 𝓤 H A (fat fullShare rows l 0 vys)) (sem 𝓤 H A (Lie l))
+    comes-in : Held a → Held b → ent 𝓤 (sem 𝓤 H A Cell) (sem 𝓤 H A (Lie a b l))
     unfolding partOf
-    comes-in l =
-        qed W (‵ (fat fullShare rows l 0 vys) ∷ []) ∵
-        use1 W (‵ (cellAt fullShare (Rows .mir) (vys ∷ []) l 0)) (W .laws .at-raw fullShare rows l 0 vys) $
-        owned ! Rows (Is Rows) (array-makes 𝓤 H A W T.the-row (LL.makes T.the-type T′.the-plain 𝓤 H A) 2) ys (vys ∷ []) is $ move ! (1 ∷ 0 ∷ []) $ fjoin ! $
-        fpack ! (List Val) (λ us. fsep (cellAt fullShare (Rows .mir) us l 0) (Rows .own ys us)) (vys ∷ []) $
-        by ! (array-apart 𝓤 H A W T.the-row fullShare tt 2 ys l 0)
+    comes-in isa isb =
+        qed W (‵ Cell ∷ []) ∵
+        use1 W (‵ (cellAt fullShare (Rows .mir) (vys a b ∷ []) l 0)) (W .laws .at-raw fullShare rows l 0 (vys a b)) $
+        owned ! Rows (Is Rows) (array-makes 𝓤 H A W T.the-row (LL.makes T.the-type T′.the-plain 𝓤 H A) 2) (ys a b) _ (is a b isa isb) $
+        move ! (1 ∷ 0 ∷ []) $ fjoin ! $ fpack ! (List Val) (λ us. fsep (cellAt fullShare (Rows .mir) us l 0) (Rows .own (ys a b) us)) (vys a b ∷ []) $
+        by ! (array-apart 𝓤 H A W T.the-row fullShare tt 2 (ys a b) l 0)
 
-    goes-out : (l : ℕ) → ent 𝓤 (sem 𝓤 H A (Lie l)) (sem 𝓤 H A (froom rows l 0))
+    goes-out : ent 𝓤 (sem 𝓤 H A (Lie a b l)) (sem 𝓤 H A (froom rows l 0))
     unfolding partOf
-    goes-out l =
+    goes-out =
         let vals = LL.vals T.the-type T′.the-laws in
         let tells = array-tells T.the-row vals (LL.tells T.the-type T′.the-laws) 2 in
-        qed W (‵ (Lie l) ∷ []) ∵ use1 W (‵ (partAt Rows fullShare ys l 0)) (array-whole 𝓤 H A W T.the-row fullShare 2 ys l 0) $
-        fpick ! (λ vs. fsplit ! $ spelt ! Rows (Is Rows) (shows 𝓤 H A Rows) (array-vals vals) tells fullShare ys vs l 0 $
-        use1 W (‵ (fat fullShare rows l 0 vys)) (W .laws .raw-at fullShare rows l 0 vys) $ forget ! 0 refl $ keep ! (0 ∷ []) $ done !)
+        qed W (‵ (Lie a b l) ∷ []) ∵ use1 W (‵ (partAt Rows fullShare (ys a b) l 0)) (array-whole 𝓤 H A W T.the-row fullShare 2 (ys a b) l 0) $
+        fpick ! (λ vs. fsplit ! $ spelt ! Rows (Is Rows) (shows 𝓤 H A Rows) (array-vals vals) tells fullShare (ys a b) vs l 0 $
+        use1 W (‵ Cell) (W .laws .raw-at fullShare rows l 0 (vys a b)) $ forget ! 0 refl $ keep ! (0 ∷ []) $ done !)
 
   module _ (mem : Memory → SProp 𝓤) (run : Routine → Fun 𝓤) (𝓣 : Tables 𝓤 H) where
     -- the function's clauses and its code, and the contract that the proof cites
@@ -145,17 +161,16 @@ module _ {M : Type 1} (𝓤 : URA M) (H : Heap 𝓤) (A : Atoms 𝓤) (W : Given
 
       -- the slice that the call is passed: the array at l, under the name γ
       abbrev lent : ℕ → GName → RefT (List Order)
-      lent l γ = record { ptr = (l, 0); name = γ; now = a ∷ b ∷ [] }
+      lent l γ = record { ptr = (l, 0); name = γ; now = ys a b }
 
       abbrev OwnS : ℕ → ℕ → GName → Fml
       OwnS l ν γ = ShrSlice (named 0) (ν ∷ []) T.the-row .own (lent l γ) (val (lent l γ) ∷ [])
 
       -- what is known of the result r and of the last output
       abbrev Said : Sized → List ℕ → Type 0
-      Said r os = Told (writeSheet (map orderSays (a ∷ b ∷ [])) (now j) (length (now w)) (length (now o))) (now o) r os
+      Said r os = Told (writeSheet (map orderSays (ys a b)) (now j) (length (now w)) (length (now o))) (now o) r os
 
-      walk : Triple 𝓤 (𝓣 .C #orders·write) Inner → Is T.the-row a (orderVal a ∷ []) → Is T.the-row b (orderVal b ∷ [])
-          → Room u32 (length (j .now)) → Room u32 (length (w .now)) → Room u8 (length (o .now))
+      walk : Triple 𝓤 (𝓣 .C #orders·write) Inner → Held a → Held b → Room u32 (length (j .now)) → Room u32 (length (w .now)) → Room u8 (length (o .now))
           → ent 𝓤 (onEntry 𝓤 H A write-two.signature κs qs args at) (Code (orderVal a ∷ orderVal b ∷ val j ∷ val w ∷ val o ∷ []) Post)
       walk known isa isb gj gw go =
           let fm = fmOf 𝓤 H (W .laws) 𝓣 in
@@ -163,33 +178,35 @@ module _ {M : Type 1} (𝓤 : URA M) (H : Heap 𝓤) (A : Atoms 𝓤) (W : Given
           begins W write-two.signature κs qs args at (enter ! (𝓣 .C) (𝓣 .Λ) code.function (orderVal a ∷ orderVal b ∷ val j ∷ val w ∷ val o ∷ []) _ $
           alloc2 ! (λ l₀ l₁. alloc2 ! (λ l₂ l₃. alloc2 ! (λ l₄ l₅. alloc2 ! (λ l₆ l₇. alloc2 ! (λ l₈ l₉. alloc2 ! (λ l₁₀ l₁₁. alloc1 ! (λ l₁₂. alloc0 ! $
           params1 ! $ pass1 ! (init ! 22 refl (lawful .typed a _ isa .0)) $ pass1 ! (init ! 20 refl (lawful .typed b _ isb .0)) $
-          pass1 ! (init ! 18 refl (slice-fits (gj .0))) $ pass1 ! (init ! 16 refl (slice-fits (gw .0))) $ pass1 ! (init ! 14 refl (slice-fits (go .0))) $ pass0 ! $
+          pass1 ! (init ! 18 refl (slice-fits (gj .0))) $ pass1 ! (init ! 16 refl (slice-fits (gw .0))) $
+          pass1 ! (init ! 14 refl (slice-fits (go .0))) $ pass0 ! $
           -- [_12; …; _0; …; three tokens; what a owns; b's; joined's; work's; out's]
-          sets ! (agg ! (and-then ! (read ! 22 refl) (and-then ! (read ! 20 refl) (no-more !))))
-          (init ! 12 refl (array-lawful 𝓤 H A W T.the-row lawful 2 .typed (a ∷ b ∷ []) _ (is a b isa isb) .0)) $
-          sets ! (addr ! (from ! (stop !))) (init ! 10 refl (tt, tt)) $
-          sets ! (agg ! (and-then ! (read ! 10 refl) (and-then ! (lit ! tt) (no-more !)))) (init ! 8 refl (slice-fits (lit< tt))) $
+          sets ! (agg ! (two ! (read ! 22 refl) (read ! 20 refl)))
+          (init ! 12 refl (array-lawful 𝓤 H A W T.the-row lawful 2 .typed (ys a b) _ (is a b isa isb) .0)) $
+          sets ! (address !) (init ! 10 refl (tt, tt)) $
+          sets ! (agg ! (two ! (read ! 10 refl) (lit ! tt))) (init ! 8 refl (slice-fits (lit< tt))) $
           sets ! (addr ! (from ! (fld ! refl (hop ! (look-in ! 16 (sub ! 0 refl (whole !))) (stop !))))) (init ! 6 refl (tt, tt)) $
-          sets ! (agg ! (and-then ! (read ! 6 refl) (and-then ! (load ! (from ! (fld ! refl (stop !))) (look-in ! 16 (sub ! 1 refl (whole !)))) (no-more !))))
+          sets ! (agg ! (two ! (read ! 6 refl) (read-field ! refl (look-in ! 16 (sub ! 1 refl (whole !))))))
           (init ! 4 refl (slice-fits (gw .0))) $
           sets ! (addr ! (from ! (fld ! refl (hop ! (look-in ! 14 (sub ! 0 refl (whole !))) (stop !))))) (init ! 2 refl (tt, tt)) $
-          sets ! (agg ! (and-then ! (read ! 2 refl) (and-then ! (load ! (from ! (fld ! refl (stop !))) (look-in ! 14 (sub ! 1 refl (whole !)))) (no-more !))))
+          sets ! (agg ! (two ! (read ! 2 refl) (read-field ! refl (look-in ! 14 (sub ! 1 refl (whole !))))))
           (init ! 0 refl (slice-fits (go .0))) $
           -- the array is lent for a lifetime of the call
-          move ! (12 ∷ []) $ use1 W (‵ (Lie a b isa isb l₆)) (comes-in a b isa isb l₆) $ lft-new ! tt (λ ν. move ! (1 ∷ []) $
-          use1 W (later (some (λ (γ : GName). ‵ (OwnS l₆ ν γ) ⊛ ‵ (flent (ν ∷ []) (Lie a b isa isb l₆)))))
-          (lends-shr-slice 𝓤 H A W T.the-row (named 0) (ν ∷ []) fullShare (a ∷ b ∷ []) l₆ 0 (lit< tt, lit< tt)) $ await ! tt $ pick ! (λ γ. split ! $
+          move ! (12 ∷ []) $ use1 W (‵ (Lie a b l₆)) (comes-in a b l₆ isa isb) $ lft-new ! tt (λ ν. move ! (1 ∷ []) $
+          use1 W (later (some (λ (γ : GName). ‵ (OwnS l₆ ν γ) ⊛ ‵ (flent (ν ∷ []) (Lie a b l₆)))))
+          (lends-shr-slice 𝓤 H A W T.the-row (named 0) (ν ∷ []) fullShare (ys a b) l₆ 0 (lit< tt, lit< tt)) $ await ! tt $ pick ! (λ γ. split ! $
           -- [the lent slice; the lender's part; ν's token; _12; …; _7; …; that _6 dies; _5; …; _0; …; three tokens; what a owns; b's; joined's; work's; out's]
           move ! (33 ∷ []) $ doubles ! (named 0) (κs .0) u32 j (val j ∷ []) $ move ! (4 ∷ 30 ∷ 31 ∷ 32 ∷ 2 ∷ 0 ∷ 35 ∷ 36 ∷ []) $
           asks W inner.ended (inner.clauses 𝓤 H A mem run) (ν ∷ [], κs) (fullShare, qs) (lent l₆ γ, args .1 .1) (val (lent l₆ γ) ∷ [], at .1 .1) tt tt !
-          fm known (id⊢ 𝓤 _) (and-then ! (read ! 11 refl) (and-then ! (read ! 20 refl) (and-then ! (read ! 7 refl) (and-then ! (read ! 3 refl) (no-more !)))))
+          fm known (id⊢ 𝓤 _) (and-then ! (read ! 11 refl) (three ! (read ! 20 refl) (read ! 7 refl) (read ! 3 refl)))
           (λ r zs. Said r (zs .1 .1 .1 .0)) (λ r zs. id⊢ 𝓤 _) (λ u r zs e isr.
           fsplit ! $ drop ! $ fsplit ! $ drop ! $ fsplit ! $ fsplit ! $ move ! (1 ∷ []) $ feqL ! (λ lw.
           move ! (1 ∷ []) $ fsplit ! $ fsplit ! $ move ! (1 ∷ []) $ feqL ! (λ lo.
           -- [out's last list; true; work's; what the result owns; ν's token; three tokens; what joined owns; the lender's part; _12; …]:
           -- the lifetime is ended, and the array comes back
-          move ! (4 ∷ 9 ∷ []) $ lft-end ! tt $ lent-back ! tt $ use1 W (‵ (froom rows l₆ 0)) (goes-out a b isa isb l₆) $
-          -- [room for _6; out's last list; true; work's; what the result owns; three tokens; joined's; _12; …; _7; …; that _6 dies; _5; …; room for _0; …; a's; b's]
+          move ! (4 ∷ 9 ∷ []) $ lft-end ! tt $ lent-back ! tt $ use1 W (‵ (froom rows l₆ 0)) (goes-out a b l₆) $
+          -- [room for _6; out's last list; true; work's; what the result owns; three tokens; joined's;
+          -- _12; …; _7; …; that _6 dies; _5; …; room for _0; …; a's; b's]
           gets ! (init ! 32 refl (EL.lawful E.the-type E′.the-laws 𝓤 H A W tt .typed r _ isr .0)) $ returns ! (look ! 32 refl) $
           gone ! 32 refl $ gone ! 30 refl $ gone ! 28 refl $ gone ! 26 refl $ gone ! 24 refl $ gone ! 22 refl $ freed ! 0 20 refl $
           gone ! 18 refl $ gone ! 16 refl $ gone ! 14 refl $ gone ! 12 refl $ gone ! 10 refl $ gone ! 8 refl $ free0 ! $

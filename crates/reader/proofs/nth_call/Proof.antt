@@ -1,5 +1,6 @@
 -- `reader::nth_call` meets its contract: a walk of its MIR, by hand, with a loop whose turn lends the reader to one call of `step`.
--- The loop's invariant, at i: i is at most the number of calls before, and the local r holds the reader as i calls left it. Its variant is i itself, by what is left of that number.
+-- The loop's invariant, at i: i is at most the number of calls before, and the local r holds the reader as i calls left it.
+-- Its variant is i itself, by what is left of that number.
 -- Assumes nothing.
 use mathlib.Core.Path.{_≡_, refl, ap, _∙_}
 use mathlib.Core.Bool.{Bool}
@@ -26,18 +27,18 @@ use ghost.Atoms.{Atoms}
 use contract.Monad.{Fun}
 use contract.Running.{givenOf, tables, tablesOf}
 use types.Kit.{Given, Item, ‵, atRet, _$_, !, move, keep, drop, use1, use2, rewrite, fltL, fltI, done}
-use types.Run.{look, init, store, forget, stop, from, lit, addr, of-opd, bin, and-then, no-more, assigns-last, first, blocks, stays, leaves-loop, exec, loops, again, returns, enter, alloc0, params1, pass1, pass0, free0}
+use types.Run.{look, init, store, forget, stop, from, lit, of-opd, bin, assigns-last, first, blocks}
+use types.Run.{stays, leaves-loop, exec, loops, again, returns, enter, alloc0, params1, pass1, pass0, free0}
 use sound.WpLaws.{FmC, fmOf, WpFn-mono}
 use denote.Laws.{Is}
 use denote.Memory.{pointee}
 use denote.Plain.{uint-vals, uint-tells, uint-lawful}
 use denote.Builtin.{u8, usize}
-use denote.Ref.{RefT, NamedLft, now}
+use denote.Ref.{RefT, now}
 use denote.Signature.{plain}
 use denote.Slice.{sliceTy, ShrSlice, Room, slice-vals, shr-slice-tells}
 use denote.Steps.{only, owned}
 use denote.Enum.Laws as EL
-use denote.Struct.Laws as LL
 use denote.Triple.Statement.{Contract, Triple}
 use denote.Triple.Clauses.{Clauses}
 use denote.Triple.Entry.{Args, Vals, onEntry}
@@ -55,8 +56,9 @@ use Rattle.meaning.proofs.Tests.{by-order}
 use Rattle.reader.specs.Steps.{opened, answer, after, standing, moved}
 use Rattle.reader.specs.declared.Reader.{Reader}
 use Rattle.reader.proofs.Calls.{stands-first, stands-next, tells-call, call-capped}
-use Rattle.reader.proofs.Lent.{Open, Step, Lies, foundVal, comes-in, goes-out, stepping, opening}
-use Rattle.leaves.proofs.Walking.{begins, alloc2, val, slice-fits, read, sets, gets, freed, number, asks, ends}
+use Rattle.reader.proofs.Lent.{Open, Step, Lies, readerRoom, numberRoom, foundVal, found-lawful, reader-lawful}
+use Rattle.reader.proofs.Lent.{comes-in, goes-out, stepping, opening}
+use Rattle.leaves.proofs.Walking.{begins, alloc2, val, slice-fits, int-fits, one, three, address, read, sets, gets, freed, number, asks, ends}
 use Rattle.reader.proofs.Reader as T
 use Rattle.reader.proofs.Reader.Laws as T′
 use Rattle.reader.proofs.open.Symbol.{name as #reader·open}
@@ -137,10 +139,6 @@ tells : (sheet : List ℕ) (c k : ℕ) (r : Reader) → standing r ≡ opened sh
 tells sheet c k r e i at-m x told =
     tells-call sheet c i (movedBy i r) x (stands-by sheet c r e i) told ∙ (ap (call sheet c) at-m ∙ call-capped sheet c k)
 
--- the struct's type as a local of a body has it
-abbrev αᵉ : Lft → NamedLft
-αᵉ κ = record { mir = erased; lft = κ }
-
 module _ {M : Type 1} (𝓤 : URA M) (H : Heap 𝓤) (A : Atoms 𝓤) (W : Given 𝓤 H A) (mem : Memory → SProp 𝓤) (run : Routine → Fun 𝓤) (𝓣 : Tables 𝓤 H) where
   -- the function's clauses and its code, and the contract that the proof cites beside those of `Lent`
   abbrev clauses : Clauses 𝓤 nth-call.ended
@@ -175,9 +173,9 @@ module _ {M : Type 1} (𝓤 : URA M) (H : Heap 𝓤) (A : Atoms 𝓤) (W : Given
       -- what no turn changes
       abbrev Frame : List (Item 𝓤)
       Frame =
-          ‵ (ShrSlice (named 0) κ u8 .own s (val s ∷ [])) ∷ ‵ (froom (tyInt w8) l₄ 0) ∷ ‵ (fat fullShare word l₆ 0 (vint w64 m))
+          ‵ (ShrSlice (named 0) κ u8 .own s (val s ∷ [])) ∷ ‵ (numberRoom l₄) ∷ ‵ (fat fullShare word l₆ 0 (vint w64 m))
           ∷ ‵ (fat fullShare word l₃ 0 (vint w64 k)) ∷ ‵ (fat fullShare word l₂ 0 (vint w64 c)) ∷ ‵ (fat fullShare slice l₁ 0 (val s))
-          ∷ ‵ (froom E′.mir l₀ 0) ∷ ‵ (froom (T′.mir erased) l₈ 0) ∷ ‵ (froom numberRef l₉ 0) ∷ ‵ (froom (readerRef κ) l₁₃ 0)
+          ∷ ‵ (froom E′.mir l₀ 0) ∷ ‵ (readerRoom l₈) ∷ ‵ (froom numberRef l₉ 0) ∷ ‵ (froom (readerRef κ) l₁₃ 0)
           ∷ ‵ (fdies E′.mir l₀) ∷ ‵ (fdies slice l₁) ∷ ‵ (fdies word l₂) ∷ ‵ (fdies word l₃) ∷ ‵ (fdies (tyInt w8) l₄) ∷ ‵ (fdies (T′.mir erased) l₅)
           ∷ ‵ (fdies word l₆) ∷ ‵ (fdies word l₇) ∷ ‵ (fdies (T′.mir erased) l₈) ∷ ‵ (fdies numberRef l₉) ∷ ‵ (fdies tyBool l₁₀) ∷ ‵ (fdies E′.mir l₁₁)
           ∷ ‵ (fdies (readerRef κ) l₁₂) ∷ ‵ (fdies (readerRef κ) l₁₃) ∷ []
@@ -197,22 +195,22 @@ module _ {M : Type 1} (𝓤 : URA M) (H : Heap 𝓤) (A : Atoms 𝓤) (W : Given
       walk =
           begins W nth-call.signature (κ, tt) (q, tt) args at (enter ! (𝓣 .C) (𝓣 .Λ) code.function (val s ∷ vint w64 c ∷ vint w64 k ∷ []) _ $
           alloc2 ! (λ l₀ l₁. alloc2 ! (λ l₂ l₃. alloc2 ! (λ l₄ l₅. alloc2 ! (λ l₆ l₇. alloc2 ! (λ l₈ l₉. alloc2 ! (λ l₁₀ l₁₁. alloc2 ! (λ l₁₂ l₁₃. alloc0 ! $
-          params1 ! $ pass1 ! (init ! 24 refl (slice-fits (g .0))) $ pass1 ! (init ! 22 refl (tt, record { fits = c-fits })) $
-          pass1 ! (init ! 20 refl (tt, record { fits = k-fits })) $ pass0 ! $
-          sets ! (of-opd ! (lit ! tt)) (init ! 18 refl (tt, record { fits = lit< tt })) $ sets ! (addr ! (from ! (stop !))) (init ! 8 refl (tt, tt)) $
+          params1 ! $ pass1 ! (init ! 24 refl (slice-fits (g .0))) $ pass1 ! (init ! 22 refl (int-fits c-fits)) $
+          pass1 ! (init ! 20 refl (int-fits k-fits)) $ pass0 ! $
+          sets ! (of-opd ! (lit ! tt)) (init ! 18 refl (int-fits (lit< tt))) $ sets ! (address !) (init ! 8 refl (tt, tt)) $
           move ! (18 ∷ 28 ∷ 29 ∷ []) $
           -- [the number, _4; the token; what sheet owns; _13; …; _5; …; that _4 dies; _3; …; _2; …; _1; …; room for _0; …; column's; k's]
           opening W mem run κ q s c c-fits l₄ fm known-open ! (λ ν γ.
-          and-then ! (read ! 26 refl) (and-then ! (read ! 24 refl) (and-then ! (read ! 11 refl) (no-more !)))) (λ r e is.
-          gets ! (init ! 14 refl (LL.lawful (T.the-type (αᵉ κ)) (T′.the-laws (αᵉ κ)) 𝓤 H A W .typed r _ is .0)) $
-          sets ! (of-opd ! (read ! 14 refl)) (init ! 20 refl (LL.lawful (T.the-type (αᵉ κ)) (T′.the-laws (αᵉ κ)) 𝓤 H A W .typed r _ is .0)) $
+          three ! (read ! 26 refl) (read ! 24 refl) (read ! 11 refl)) (λ r e is.
+          gets ! (init ! 14 refl (reader-lawful W κ .typed r _ is .0)) $
+          sets ! (of-opd ! (read ! 14 refl)) (init ! 20 refl (reader-lawful W κ .typed r _ is .0)) $
           move ! (20 ∷ 0 ∷ []) $ use2 W (‵ (Lies κ l₅ r)) (comes-in W κ l₅ r (T′.lowered r)) $ number ! k k-fits $
           -- [k's; the reader; the token; what sheet owns; room for _4; _13; …; _6; …; that _5 dies; that _4 dies; _3; …; _2; …; _1; …; room for _0; …]
           asks W before.ended (before.clauses 𝓤 H A mem run) tt tt (k, tt) (vint w64 k ∷ [], tt) tt tt ! fm known-before (id⊢ 𝓤 _)
-          (and-then ! (read ! 23 refl) (no-more !)) (λ n ws. n ≡ m) (λ n ws. id⊢ 𝓤 _) (λ u n ws en isn. drop ! $ drop ! $
+          (one ! (read ! 23 refl)) (λ n ws. n ≡ m) (λ n ws. id⊢ 𝓤 _) (λ u n ws en isn. drop ! $ drop ! $
           gets ! (init ! 18 refl (uint-lawful 𝓤 H A W w64 .typed n _ isn .0)) $
           rewrite ! 18 (λ (w : Val). ‵ (fat fullShare word l₆ 0 w)) (ap only (isn .0) ∙ ap (vint w64) en) refl $
-          sets ! (of-opd ! (lit ! tt)) (init ! 16 refl (tt, record { fits = lit< tt })) $
+          sets ! (of-opd ! (lit ! tt)) (init ! 16 refl (int-fits (lit< tt))) $
           forget ! 12 refl $ forget ! 14 refl $ rewrite ! 0 (λ (h : Reader). ‵ (Lies κ l₅ h)) (none-is r) refl $ fltI ! 0 (m + 1) (above m) $
           keep ! (0 ∷ 1 ∷ 2 ∷ 17 ∷ 9 ∷ 11 ∷ 7 ∷ 3 ∷ 4 ∷ 19 ∷ 23 ∷ 25 ∷ 27 ∷ 29 ∷ 15 ∷ 13 ∷ 5 ∷ 30 ∷ 28 ∷ 26 ∷ 24 ∷ 22 ∷ 21 ∷ 20 ∷ 18 ∷ 16 ∷ 14 ∷ 12 ∷ 10 ∷ 8 ∷ 6 ∷ []) $
           first ! $ blocks ! $ loops ! 𝓣 Fewer (InvImage·wf (λ (a : ℕ). m - a) (Nat·lt-wfRel .wf))
@@ -223,9 +221,9 @@ module _ {M : Type 1} (𝓤 : URA M) (H : Heap 𝓤) (A : Atoms 𝓤) (W : Given
           elim (either i m) [
             | inl l ↦
                 rewrite ! 4 (λ (t : Bool). ‵ (fat fullShare tyBool l₁₀ 0 (vbool t))) (lt-ltb i m l) refl $ stays ! (read ! 4 refl) $
-                sets ! (addr ! (from ! (stop !))) (init ! 5 refl (tt, tt)) $
-                stepping W mem run κ q l₅ fm known-step ! (movedBy i r) (λ ν γ. and-then ! (read ! 6 refl) (no-more !)) (λ x ex isx.
-                gets ! (init ! 3 refl (EL.lawful E.the-type E′.the-laws 𝓤 H A W tt .typed x _ isx .0)) $
+                sets ! (address !) (init ! 5 refl (tt, tt)) $
+                stepping W mem run κ q l₅ fm known-step ! (movedBy i r) (λ ν γ. one ! (read ! 6 refl)) (λ x ex isx.
+                gets ! (init ! 3 refl (found-lawful W .typed x _ isx .0)) $
                 rewrite ! 0 (λ (h : Reader). ‵ (Lies κ l₅ h)) (next-is i r) refl $
                 assigns-last ! (bin ! (read ! 2 refl) (lit ! tt) (record { fits = small k i l })) (from ! (stop !)) (store ! 2 refl (tt, record { fits = small k i l })) $
                 forget ! 3 refl $ forget ! 4 refl $ forget ! 5 refl $ fltI ! (i + 1) (m + 1) (more m i l) $
@@ -233,10 +231,10 @@ module _ {M : Type 1} (𝓤 : URA M) (H : Heap 𝓤) (A : Atoms 𝓤) (W : Given
             | inr ge ↦
                 rewrite ! 4 (λ (t : Bool). ‵ (fat fullShare tyBool l₁₀ 0 (vbool t))) (le-ltb i m ge) refl $ leaves-loop ! (read ! 4 refl) $
                 exec ! (𝓣 .C) (𝓣 .Λ) (En l₀ l₁ l₂ l₃ l₄ l₅ l₆ l₇ l₈ l₉ l₁₀ l₁₁ l₁₂ l₁₃) body.t-8 (atRet (En l₀ l₁ l₂ l₃ l₄ l₅ l₆ l₇ l₈ l₉ l₁₀ l₁₁ l₁₂ l₁₃) Post) $
-                sets ! (addr ! (from ! (stop !))) (init ! 15 refl (tt, tt)) $
-                stepping W mem run κ q l₅ fm known-step ! (movedBy i r) (λ ν γ. and-then ! (read ! 16 refl) (no-more !)) (λ x ex isx.
-                gets ! (init ! 12 refl (EL.lawful E.the-type E′.the-laws 𝓤 H A W tt .typed x _ isx .0)) $
-                use1 W (‵ (froom (T′.mir erased) l₅ 0)) (goes-out W κ l₅ (moved (movedBy i r))) $ returns ! (look ! 12 refl) $
+                sets ! (address !) (init ! 15 refl (tt, tt)) $
+                stepping W mem run κ q l₅ fm known-step ! (movedBy i r) (λ ν γ. one ! (read ! 16 refl)) (λ x ex isx.
+                gets ! (init ! 12 refl (found-lawful W .typed x _ isx .0)) $
+                use1 W (‵ (readerRoom l₅)) (goes-out W κ l₅ (moved (movedBy i r))) $ returns ! (look ! 12 refl) $
                 forget ! 2 refl $ forget ! 4 refl $ forget ! 8 refl $ forget ! 9 refl $ forget ! 10 refl $ forget ! 11 refl $ forget ! 12 refl $ forget ! 15 refl $
                 freed ! 12 15 refl $ freed ! 11 14 refl $ freed ! 10 13 refl $ freed ! 9 12 refl $ freed ! 7 11 refl $ freed ! 0 10 refl $ freed ! 6 9 refl $
                 freed ! 1 8 refl $ freed ! 5 7 refl $ freed ! 5 6 refl $ freed ! 2 5 refl $ freed ! 1 4 refl $ freed ! 1 3 refl $ freed ! 2 2 refl $ free0 ! $

@@ -1,4 +1,5 @@
--- `reader::open` meets its contract: a walk of its MIR, by hand. The part is made by one call of a covered function, to which the number's reference is given up, and the struct of it, of the column and of place 0.
+-- `reader::open` meets its contract: a walk of its MIR, by hand. The part is made by one call of a covered function, to which the number's reference
+-- is given up, and the struct of it, of the column and of place 0.
 -- Assumes nothing.
 use mathlib.Core.Path.{_≡_, refl, ap, subst}
 use Prim.Native.Nat.{ℕ, _<_, _^_}
@@ -20,16 +21,17 @@ use contract.Monad.{Fun}
 use contract.Running.{givenOf, tables, tablesOf}
 use types.Kit.{Given, ‵, _$_, !, move, keep, use1, drop, rewrite, fsplit, fjoin, done}
 use types.Part.{agg}
-use types.Run.{look, init, stop, hop, from, lit, addr, and-then, no-more, returns, enter, alloc1, alloc0, params1, pass1, pass0, free0}
+use types.Run.{look, init, stop, hop, from, lit, addr, returns, enter, alloc1, alloc0, params1, pass1, pass0, free0}
 use sound.WpLaws.{fmOf, WpFn-mono}
 use denote.RattleType.{RattleType}
-use denote.Laws.{Is}
+use denote.Laws.{Is, Lawful}
 use denote.Plain.{uint-vals, uint-tells}
 use denote.Builtin.{u8, usize}
 use denote.Ref.{RefT, NamedLft, now, ptr-vals, mut-tells}
 use denote.Signature.{Slot, plain, namedLft}
 use denote.Slice.{sliceTy, ShrSlice, Room, slice-vals, shr-slice-tells, shr-slice-lawful}
 use denote.Steps.{only, nothing, owned}
+use denote.Struct.Declared.{Declared}
 use denote.Struct.Laws as LL
 use denote.Struct.Rest.{own-shut}
 use denote.Triple.Statement.{Contract, Triple}
@@ -46,7 +48,7 @@ use Rattle.meaning.proofs.Place as P
 use Rattle.meaning.proofs.Place.Laws as P′
 use Rattle.reader.specs.Steps.{opened, standing}
 use Rattle.reader.specs.declared.Reader.{Reader}
-use Rattle.leaves.proofs.Walking.{begins, alloc2, val, slice-fits, read, sets, gets, gone, doubles, number, asks, ends}
+use Rattle.leaves.proofs.Walking.{begins, alloc2, val, slice-fits, int-fits, one, three, read, sets, gets, gone, doubles, number, asks, ends}
 use Rattle.reader.proofs.Reader as T
 use Rattle.reader.proofs.Reader.Laws as T′
 use Rattle.reader.proofs.part_of as part
@@ -85,9 +87,22 @@ module _ {M : Type 1} (𝓤 : URA M) (H : Heap 𝓤) (A : Atoms 𝓤) (W : Given
   abbrev Part : Contract 𝓤
   Part = tripleOf 𝓤 H A part.signature (part.spec 𝓤 H A mem run)
 
+  abbrev place-lawful : Lawful 𝓤 H A P.the-row
+  place-lawful = LL.lawful P.the-type P′.the-laws 𝓤 H A W
+
   module _ (κs : Lfts 2) (qs : Shares 2) (s : RefT (List ℕ)) (c : ℕ) (f : RefT ℕ) where
+    -- the struct's type and its laws
     abbrev α : NamedLft
     α = namedLft 2 0 tt κs
+
+    abbrev D : Declared
+    D = T.the-type α
+
+    abbrev L : LL.Laws D
+    L = T′.the-laws α
+
+    abbrev reader-lawful : Lawful 𝓤 H A (T.the-row α)
+    reader-lawful = LL.lawful D L 𝓤 H A W
 
     abbrev vf : Val
     vf = vptr (f .ptr .0) (f .ptr .1)
@@ -115,31 +130,33 @@ module _ {M : Type 1} (𝓤 : URA M) (H : Heap 𝓤) (A : Atoms 𝓤) (W : Given
     stands r n e = λ i. record { part = e .0 i; column = c; place = 0 }
 
     made-is : (r : RefT (List ℕ)) → Is Slice r (val r ∷ []) → c < 2 ^ 64 → Is (T.the-row α) (made r) (T′.lowered (made r) ∷ [])
-    made-is r is c-fits = LL.owes (T.the-type α) (T′.the-laws α) (made r) (is, ((refl, c-fits), (start-is, tt)))
+    made-is r is c-fits = LL.owes D L (made r) (is, ((refl, c-fits), (start-is, tt)))
 
     walk : Triple 𝓤 (𝓣 .C #reader·part-of) Part → Room u8 (length (s .now)) → c < 2 ^ 64
         → ent 𝓤 (onEntry 𝓤 H A open′.signature κs qs args at) (Code (val s ∷ vint w64 c ∷ vf ∷ []) Post)
     walk known g c-fits =
         begins W open′.signature κs qs args at (enter ! (𝓣 .C) (𝓣 .Λ) code.function (val s ∷ vint w64 c ∷ vf ∷ []) _ $
         alloc2 ! (λ l₀ l₁. alloc2 ! (λ l₂ l₃. alloc2 ! (λ l₄ l₅. alloc1 ! (λ l₆. alloc0 ! $ params1 ! $ pass1 ! (init ! 10 refl (slice-fits (g .0))) $
-        pass1 ! (init ! 8 refl (tt, record { fits = c-fits })) $ pass1 ! (init ! 6 refl (tt, tt)) $ pass0 ! $
+        pass1 ! (init ! 8 refl (int-fits c-fits)) $ pass1 ! (init ! 6 refl (tt, tt)) $ pass0 ! $
         sets ! (addr ! (from ! (hop ! (look ! 6 refl) (stop !)))) (init ! 2 refl (tt, tt)) $
         -- [_6; …; _0; …; two tokens; what sheet owns; column's; refusal's]
         move ! (16 ∷ []) $ doubles ! (named 0) (κs .0) u8 s (val s ∷ []) $ move ! (16 ∷ 17 ∷ 0 ∷ 18 ∷ 19 ∷ []) $
         asks W part.ended (part.clauses 𝓤 H A mem run) κs qs args at tt tt ! (fmOf 𝓤 H (W .laws) 𝓣) known (id⊢ 𝓤 _)
-        (and-then ! (read ! 12 refl) (and-then ! (read ! 10 refl) (and-then ! (read ! 4 refl) (no-more !))))
+        (three ! (read ! 12 refl) (read ! 10 refl) (read ! 4 refl))
         (λ r zs. Said r (zs .1 .1 .0)) (λ r zs. id⊢ 𝓤 _) (λ u r zs e is. fsplit ! $ drop ! $ fsplit ! $ drop ! $ fsplit ! $
-        -- [the number's last value; true; what the part owns; two tokens; what sheet owns; room for _6; …; _5; …; room for _4; …; _3; …; _2; …; _1; …; room for _0; …]
+        -- [the number's last value; true; what the part owns; two tokens; what sheet owns;
+        -- room for _6; …; _5; …; room for _4; …; _3; …; _2; …; _1; …; room for _0; …]
         gets ! (init ! 10 refl (shr-slice-lawful 𝓤 H A W erased (κs .0) u8 .typed r (u ∷ []) is .0)) $
-        rewrite ! 10 (λ (w : Val). ‵ (fat fullShare slice l₄ 0 w)) (ap only (is .0 .0)) refl $ rewrite ! 2 (λ (ws : List Val). ‵ (Slice .own r ws)) (is .0 .0) refl $
-        sets ! (agg ! (and-then ! (lit ! tt) (no-more !))) (init ! 6 refl (LL.lawful P.the-type P′.the-laws 𝓤 H A W .typed start _ start-is .0)) $
-        sets ! (agg ! (and-then ! (read ! 10 refl) (and-then ! (read ! 14 refl) (and-then ! (read ! 6 refl) (no-more !)))))
-        (init ! 18 refl (LL.lawful (T.the-type α) (T′.the-laws α) 𝓤 H A W .typed (made r) _ (made-is r (subst (Is Slice r) (is .0 .0) is) c-fits) .0)) $
-        returns ! (look ! 18 refl) $ gone ! 18 refl $ gone ! 16 refl $ gone ! 14 refl $ gone ! 12 refl $ gone ! 10 refl $ gone ! 8 refl $ gone ! 6 refl $ free0 ! $
+        rewrite ! 10 (λ (w : Val). ‵ (fat fullShare slice l₄ 0 w)) (ap only (is .0 .0)) refl $
+        rewrite ! 2 (λ (ws : List Val). ‵ (Slice .own r ws)) (is .0 .0) refl $
+        sets ! (agg ! (one ! (lit ! tt))) (init ! 6 refl (place-lawful .typed start _ start-is .0)) $
+        sets ! (agg ! (three ! (read ! 10 refl) (read ! 14 refl) (read ! 6 refl)))
+        (init ! 18 refl (reader-lawful .typed (made r) _ (made-is r (subst (Is Slice r) (is .0 .0) is) c-fits) .0)) $ returns ! (look ! 18 refl) $
+        gone ! 18 refl $ gone ! 16 refl $ gone ! 14 refl $ gone ! 12 refl $ gone ! 10 refl $ gone ! 8 refl $ gone ! 6 refl $ free0 ! $
         -- what the part owns is, with the facts of the column and the place, what the struct owns
         move ! (2 ∷ []) $ nothing ! $ owned ! P.the-row (Is P.the-row) (LL.makes P.the-type P′.the-plain 𝓤 H A) start _ start-is $ fjoin ! $
         number ! c c-fits $ fjoin ! $ move ! (1 ∷ 0 ∷ []) $ fjoin ! $
-        use1 W (‵ (T.the-row α .own (made r) (T′.lowered (made r) ∷ []))) (own-shut 𝓤 H A W (T.the-type α) (T′.the-laws α) (r, (c, (start, tt)))) $
+        use1 W (‵ (T.the-row α .own (made r) (T′.lowered (made r) ∷ []))) (own-shut 𝓤 H A W D L (r, (c, (start, tt)))) $
         number ! c c-fits $ keep ! (4 ∷ 5 ∷ 6 ∷ 0 ∷ 2 ∷ 1 ∷ []) $
         ends W open′.ended clauses κs qs args at tt tt stayed ! (T′.lowered (made r)) (made r) (tt, (tt, (zs .1 .1 .0, tt))) (tt, (tt, (tt, tt))) $
         says ! (stands r (zs .1 .1 .0) e, e .1) $ done !))))))

@@ -1,9 +1,7 @@
 -- `part_of` hands the sheet back where it has the column, and else an empty part of it. Assumes nothing.
-use Prim.Native.Nat.{ℕ}
 use mathlib.Core.Path.{sym, ap}
 use borrow.Author.Needs.{needs}
 use Rattle.meaning.specs.Answer.{list, number}
-use Rattle.meaning.specs.Sheet.{columnAt}
 use Rattle.table.proofs.ColumnLaws.{opened-by, refused-by}
 use Rattle.reader.proofs.Openings.{open-there, open-refused}
 use Rattle.reader.proofs.part_of.Statement.{statement}
@@ -29,16 +27,15 @@ part-result-end c = search needs
 
 returns : tie.Need-returns
 returns c =
-    let a = c .before .before .before .before .args in
-    let o = opened-by (a .sheet .now) (a .column) (c .before .before .column-at .result) (c .enum-told .given .0 .0) (c .before .before .column-at .ensures) (c .enum-told .given .1) in
-    let f = open-there (a .sheet .now) (a .column) (columnAt (a .sheet .now) (a .column)) (o .told) in
+    let asked : tie.After-column-at = search in
+    let f = open-there _ _ _ (opened-by _ _ _ _ (asked .column-at .ensures) (c .enum-told .given .1) .told) in
     (sym (ap list f), sym (ap number f))
 
 returns-2 : tie.Need-returns-2
 returns-2 c =
-    let a = c .before .before .before .before .before .before .args in
-    let z : ℕ = c .before .before .found .given .0 .0 in
-    let f = open-refused (a .sheet .now) (a .column) z (refused-by (a .sheet .now) (a .column) (c .before .before .before .before .column-at .result) z (c .before .before .before .before .column-at .ensures) (c .before .before .found .given .1)) in
+    let arm : tie.After-found = search in
+    let asked : tie.After-column-at = search in
+    let f = open-refused _ _ _ (refused-by _ _ _ _ (asked .column-at .ensures) (arm .found .given .1)) in
     (sym (ap list f), sym (ap number f))
 
 pub part-of-spec : {M : Type 1} → statement M

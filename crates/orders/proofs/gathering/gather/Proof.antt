@@ -28,7 +28,7 @@ use contract.Monad.{Fun, factI}
 use contract.Running.{givenOf, tables, tablesOf}
 use types.Kit.{Given, Item, ‵, atRet, _$_, !, move, keep, drop, rewrite, fsplit, fjoin, fpick, fpack, fltL, fltI, done}
 use types.Part.{whole, sub, look-in}
-use types.Run.{look, init, store, forget, stop, fld, from, load, lit, of-opd, bin, and-then, no-more, assigns-last, first, blocks}
+use types.Run.{look, init, store, forget, stop, from, lit, of-opd, bin, assigns-last, first, blocks}
 use types.Run.{stays, leaves-loop, exec, loops, again, returns, enter, alloc0, params1, pass1, pass0, free0}
 use sound.WpLaws.{FmC, fmOf, WpFn-mono}
 use denote.Laws.{Lawful, Is, shows}
@@ -49,7 +49,8 @@ use denote.Exit.{yes}
 use Rattle.orders.specs.Gathering.{none, empty, stored, fill, gathered}
 use Rattle.orders.specs.declared.Order.{Order}
 use Rattle.orders.specs.declared.gathering.Gathered.{Gathered}
-use Rattle.leaves.proofs.Walking.{begins, alloc2, val, slice-fits, read, sets, gets, freed, gone, doubles, number, asks, ends}
+use Rattle.leaves.proofs.Walking.{begins, alloc2, val, slice-fits, int-fits, one, two, three, read, read-field, sets, gets}
+use Rattle.leaves.proofs.Walking.{freed, gone, doubles, number, asks, ends}
 use Rattle.orders.proofs.Order as T
 use Rattle.orders.proofs.Order.Laws as T′
 use Rattle.orders.proofs.gathering.Gathered as S
@@ -194,16 +195,16 @@ module _ {M : Type 1} (𝓤 : URA M) (H : Heap 𝓤) (A : Atoms 𝓤) (W : Given
           alloc2 ! (λ l₀ l₁. alloc2 ! (λ l₂ l₃. alloc2 ! (λ l₄ l₅. alloc2 ! (λ l₆ l₇. alloc0 ! $
           params1 ! $ pass1 ! (init ! 12 refl (slice-fits (g .0))) $ pass0 ! $
           -- [_7; …; _0; …; the token; what orders owns]
-          sets ! (of-opd ! (load ! (from ! (fld ! refl (stop !))) (look-in ! 12 (sub ! 1 refl (whole !))))) (init ! 10 refl (tt, record { fits = g .0 })) $
+          sets ! (of-opd ! (read-field ! refl (look-in ! 12 (sub ! 1 refl (whole !))))) (init ! 10 refl (int-fits (g .0))) $
           number ! n (g .0) $
           asks W upto.ended (upto.clauses 𝓤 H A mem run) tt tt (n, tt) (vint w64 n ∷ [], tt) tt tt ! fm known-upto (id⊢ 𝓤 _)
-          (and-then ! (read ! 11 refl) (no-more !)) (λ r ws. r ≡ m) (λ r ws. id⊢ 𝓤 _) (λ u r ws e is. drop ! $ drop ! $
+          (one ! (read ! 11 refl)) (λ r ws. r ≡ m) (λ r ws. id⊢ 𝓤 _) (λ u r ws e is. drop ! $ drop ! $
           gets ! (init ! 8 refl (uint-lawful 𝓤 H A W w64 .typed r _ is .0)) $
           rewrite ! 8 (λ (w : Val). ‵ (fat fullShare word l₃ 0 w)) (ap only (is .0) ∙ ap (vint w64) e) refl $ number ! n (g .0) $
           asks W start.ended (start.clauses 𝓤 H A mem run) tt tt (n, tt) (vint w64 n ∷ [], tt) tt tt ! fm known-start (id⊢ 𝓤 _)
-          (and-then ! (read ! 11 refl) (no-more !)) (λ r₁ ws. r₁ ≡ empty n) (λ r₁ ws. id⊢ 𝓤 _) (λ u₁ r₁ ws₁ e₁ is₁. drop ! $
+          (one ! (read ! 11 refl)) (λ r₁ ws. r₁ ≡ empty n) (λ r₁ ws. id⊢ 𝓤 _) (λ u₁ r₁ ws₁ e₁ is₁. drop ! $
           gets ! (init ! 7 refl (lawful .typed r₁ _ is₁ .0)) $ rewrite ! 0 (λ (d : Gathered). ‵ (S.the-row .own d (u₁ ∷ []))) (e₁ ∙ sym first-is) refl $
-          sets ! (of-opd ! (lit ! tt)) (init ! 5 refl (tt, record { fits = lit< tt })) $
+          sets ! (of-opd ! (lit ! tt)) (init ! 5 refl (int-fits (lit< tt))) $
           move ! (7 ∷ 0 ∷ []) $ fjoin ! $ fpack ! Val (held l₀ l₁ l₂ l₃ l₄ l₅ l₆ l₇ 0) u₁ $ fltI ! 0 (m + 1) (above m) $
           keep ! (0 ∷ 1 ∷ 6 ∷ 4 ∷ 2 ∷ 17 ∷ 18 ∷ 9 ∷ 11 ∷ 13 ∷ 15 ∷ 16 ∷ 14 ∷ 12 ∷ 10 ∷ 8 ∷ 7 ∷ 5 ∷ 3 ∷ []) $ first ! $ blocks ! $
           loops ! 𝓣 Fewer (InvImage·wf (λ (a : ℕ). m - a) (Nat·lt-wfRel .wf)) (Inv l₀ l₁ l₂ l₃ l₄ l₅ l₆ l₇) (λ i. fltL ! (λ top. fpick ! (λ u. fsplit ! $
@@ -215,18 +216,18 @@ module _ {M : Type 1} (𝓤 : URA M) (H : Heap 𝓤) (A : Atoms 𝓤) (W : Given
                 move ! (6 ∷ []) $ doubles ! (named 0) κ T.the-row s (val s ∷ []) $ number ! i (small n i l .2) $ move ! (8 ∷ 1 ∷ 0 ∷ []) $
                 -- [the token; what orders owns; i's; orders's; g; what it owns; i; room for o; the test; m; n; orders; room for _0; …]
                 asks W order-at.ended (order-at.clauses 𝓤 H A mem run) (κ, tt) (q, tt) (s, (i, tt)) (val s ∷ [], (vint w64 i ∷ [], tt)) tt tt ! fm known-at
-                (factI 𝓤 (i < n) (emp 𝓤) (small n i l .0)) (and-then ! (read ! 9 refl) (and-then ! (read ! 4 refl) (no-more !)))
+                (factI 𝓤 (i < n) (emp 𝓤) (small n i l .0)) (two ! (read ! 9 refl) (read ! 4 refl))
                 (λ o ws. o ≡ getD ys i none) (λ o ws. id⊢ 𝓤 _) (λ w o ws₂ e₂ is₂. drop ! $
                 -- [what o owns; the token; what orders owns; g; what it owns; i; room for o; the test; m; n; orders; …]
                 gets ! (init ! 6 refl (LL.lawful T.the-type T′.the-laws 𝓤 H A W .typed o _ is₂ .0)) $ number ! i (small n i l .2) $ move ! (5 ∷ 0 ∷ 1 ∷ []) $
                 asks W with′.ended (with′.clauses 𝓤 H A mem run) tt tt (G i, (i, (o, tt))) (u ∷ [], (vint w64 i ∷ [], (w ∷ [], tt))) tt tt ! fm known-with
-                (factI 𝓤 (i < 16) (emp 𝓤) (small n i l .1)) (and-then ! (read ! 3 refl) (and-then ! (read ! 4 refl) (and-then ! (read ! 5 refl) (no-more !))))
+                (factI 𝓤 (i < 16) (emp 𝓤) (small n i l .1)) (three ! (read ! 3 refl) (read ! 4 refl) (read ! 5 refl))
                 (λ r₂ ws. r₂ ≡ stored (G i) i o) (λ r₂ ws. id⊢ 𝓤 _) (λ u₂ r₂ ws₃ e₃ is₃. drop ! $
                 -- [what r₂ owns; the token; what orders owns; g; i; o; the test; m; n; orders; room for _0; …]
                 gets ! (store ! 3 refl (lawful .typed r₂ _ is₃ .0)) $
                 rewrite ! 0 (λ (d : Gathered). ‵ (S.the-row .own d (u₂ ∷ []))) (e₃ ∙ (ap (stored (G i) i) e₂ ∙ next-is i)) refl $
                 assigns-last ! (bin ! (read ! 4 refl) (lit ! tt) (record { fits = small n i l .3 })) (from ! (stop !))
-                (store ! 4 refl (tt, record { fits = small n i l .3 })) $
+                (store ! 4 refl (int-fits (small n i l .3))) $
                 forget ! 5 refl $ forget ! 6 refl $ move ! (3 ∷ 0 ∷ []) $ fjoin ! $ fpack ! Val (held l₀ l₁ l₂ l₃ l₄ l₅ l₆ l₇ (i + 1)) u₂ $
                 fltI ! (i + 1) (m + 1) (more m i l) $
                 keep ! (0 ∷ 1 ∷ 4 ∷ 5 ∷ 6 ∷ 2 ∷ 3 ∷ 7 ∷ 8 ∷ 9 ∷ 10 ∷ 11 ∷ 12 ∷ 13 ∷ 14 ∷ 15 ∷ 16 ∷ 17 ∷ 18 ∷ []) $

@@ -21,7 +21,7 @@ use contract.Monad.{Fun}
 use contract.Running.{givenOf, tables, tablesOf}
 use types.Kit.{Given, ‵, _⊛_, _$_, !, move, keep, use1, split, rewrite, fsplit, fjoin, done}
 use types.Part.{whole, sub, look-in}
-use types.Run.{look, look-raw, init, stop, hop, fld, from, load, lit, of-opd, bin, returns, enter, alloc0, params1, pass1, pass0, free0}
+use types.Run.{look, look-raw, init, stop, hop, from, load, lit, of-opd, bin, returns, enter, alloc0, params1, pass1, pass0, free0}
 use sound.WpLaws.{WpFn-mono}
 use denote.Laws.{Is, shows}
 use denote.Plain.{uint-vals, uint-tells}
@@ -40,7 +40,7 @@ use denote.Exit.{yes}
 use Rattle.orders.specs.Gathering.{none}
 use Rattle.orders.specs.declared.Order.{Order}
 use Rattle.orders.proofs.Order as T
-use Rattle.leaves.proofs.Walking.{begins, alloc2, slice-fits, read, sets, gone, ends}
+use Rattle.leaves.proofs.Walking.{begins, alloc2, slice-fits, int-fits, read, read-field, sets, gone, ends}
 use Rattle.orders.proofs.Order.Laws as T′
 use Rattle.orders.proofs.gathering.order_at.Key.{name as #orders·gathering·order-at}
 use Rattle.orders.proofs.gathering.order_at as order-at
@@ -98,10 +98,10 @@ module _ {M : Type 1} (𝓤 : URA M) (H : Heap 𝓤) (A : Atoms 𝓤) (W : Given
         let typed = LL.lawful T.the-type T′.the-laws 𝓤 H A W .typed elem in
         begins W order-at.signature (κ, tt) (q, tt) (s, (i, tt)) at (enter ! (𝓣 .C) (𝓣 .Λ) code.function (v ∷ vint w64 i ∷ []) _ $
         alloc2 ! (λ l₀ l₁. alloc2 ! (λ l₂ l₃. alloc2 ! (λ l₄ l₅. alloc0 ! $ params1 ! $
-        pass1 ! (init ! 8 refl (slice-fits (gn .0))) $ pass1 ! (init ! 6 refl (tt, record { fits = gi })) $ pass0 ! $
+        pass1 ! (init ! 8 refl (slice-fits (gn .0))) $ pass1 ! (init ! 6 refl (int-fits gi)) $ pass0 ! $
         -- [_5; …; _4; …; _3; …; _2; …; _1; …; _0; …; the token; what orders owns; i's]
-        sets ! (bin ! (read ! 6 refl) (lit ! tt) (record { fits = fits })) (init ! 4 refl (tt, record { fits = fits })) $
-        sets ! (bin ! (load ! (from ! (fld ! refl (stop !))) (look-in ! 8 (sub ! 0 refl (whole !)))) (read ! 4 refl) tt) (init ! 2 refl (tt, tt)) $
+        sets ! (bin ! (read ! 6 refl) (lit ! tt) (record { fits = fits })) (init ! 4 refl (int-fits fits)) $
+        sets ! (bin ! (read-field ! refl (look-in ! 8 (sub ! 0 refl (whole !)))) (read ! 4 refl) tt) (init ! 2 refl (tt, tt)) $
         rewrite ! 2 (λ (p : ℕ). ‵ (fat fullShare tyPtr l₄ 0 (vptr b p))) (sym (place-is 20 o i)) refl $
         move ! (13 ∷ []) $ fsplit ! $ move ! (1 ∷ []) $ fsplit ! $ move ! (1 ∷ 15 ∷ []) $
         looks-slice ! tt T.the-row (Is T.the-row) (shows 𝓤 H A T.the-row) (LL.vals T.the-type T′.the-laws) reads copies ys b o (λ q′.
