@@ -26,7 +26,7 @@ use prog.Wp.{Heap, Env, WpFn, Tables, afterTurn}
 use ghost.Atoms.{Atoms}
 use contract.Monad.{Fun, factI}
 use contract.Running.{givenOf, tables, tablesOf}
-use types.Kit.{Given, Item, ‵, atRet, _$_, !, move, keep, drop, rewrite, fsplit, fjoin, fpick, fpack, fltL, fltI, done}
+use types.Kit.{Given, Item, Go, Seq, ‵, runs, atRet, _$_, !, move, keep, drop, rewrite, fsplit, fjoin, fpick, fpack, fltL, fltI, done}
 use types.Part.{whole, sub, look-in}
 use types.Run.{look, init, store, forget, stop, from, lit, of-opd, bin, assigns-last, first, blocks}
 use types.Run.{stays, leaves-loop, exec, loops, again, returns, enter, alloc0, params1, pass1, pass0, free0}
@@ -83,6 +83,10 @@ word = tyInt w64
 abbrev slice : Ty
 slice = sliceTy (tyRef (named 0) imm (pointee (T.the-row .written)))
 
+-- the local at l holds the number n
+abbrev wordAt : ℕ → ℕ → Fml
+wordAt l n = fat fullShare word l 0 (vint w64 n)
+
 -- the numbers of a turn
 small : (n i : ℕ) → i < min n 16 → (i < n) × (i < 16) × (i < 2 ^ 64) × (i + 1 < 2 ^ 64)
 small n i l = omega arith
@@ -121,6 +125,9 @@ module _ {M : Type 1} (𝓤 : URA M) (H : Heap 𝓤) (A : Atoms 𝓤) (W : Given
 
   abbrev lawful : Lawful 𝓤 H A S.the-row
   lawful = LL.lawful S.the-type S′.the-laws 𝓤 H A W
+
+  abbrev order-lawful : Lawful 𝓤 H A T.the-row
+  order-lawful = LL.lawful T.the-type T′.the-laws 𝓤 H A W
 
   abbrev Upto : Contract 𝓤
   Upto = tripleOf 𝓤 H A upto.signature (upto.spec 𝓤 H A mem run)
@@ -163,34 +170,75 @@ module _ {M : Type 1} (𝓤 : URA M) (H : Heap 𝓤) (A : Atoms 𝓤) (W : Given
     unfolding gathered
     last-is = refl
 
-    module _ (l₀ l₁ l₂ l₃ l₄ l₅ l₆ l₇ : ℕ) where
-      abbrev En : Env 𝓤 H
-      En = (S′.mir, l₀) ∷ (slice, l₁) ∷ (word, l₂) ∷ (word, l₃) ∷ (S′.mir, l₄) ∷ (word, l₅) ∷ (T′.mir, l₆) ∷ (tyBool, l₇) ∷ []
-
-      -- what no turn changes
-      abbrev Frame : List (Item 𝓤)
-      Frame =
-          ‵ (fat fullShare word l₃ 0 (vint w64 m)) ∷ ‵ (fat fullShare word l₂ 0 (vint w64 n)) ∷ ‵ (fat fullShare slice l₁ 0 (val s)) ∷ ‵ (froom S′.mir l₀ 0)
-          ∷ ‵ (fdies S′.mir l₀) ∷ ‵ (fdies slice l₁) ∷ ‵ (fdies word l₂) ∷ ‵ (fdies word l₃)
-          ∷ ‵ (fdies S′.mir l₄) ∷ ‵ (fdies word l₅) ∷ ‵ (fdies T′.mir l₆) ∷ ‵ (fdies tyBool l₇) ∷ []
-
-      -- a local that holds `G i`, and what that owns
-      abbrev held : ℕ → Val → Fml
-      held i u = fsep (fat fullShare S′.mir l₄ 0 u) (S.the-row .own (G i) (u ∷ []))
-
-      abbrev Inv : ℕ → List (Item 𝓤)
-      Inv i =
-          ‵ (flt i (m + 1)) ∷ ‵ (fex Val (held i)) ∷ ‵ (fat fullShare word l₅ 0 (vint w64 i)) ∷ ‵ (froom T′.mir l₆ 0) ∷ ‵ (froom tyBool l₇ 0)
-          ∷ ‵ (flft κ q) ∷ ‵ (ShrSlice (named 0) κ T.the-row .own s (val s ∷ [])) ∷ Frame
-
     abbrev Fewer : ℕ → ℕ → Type 0
     Fewer a b = m - a < m - b
 
-    module _ (known-upto : Triple 𝓤 (𝓣 .C #orders·gathering·upto) Upto) (known-start : Triple 𝓤 (𝓣 .C #orders·gathering·start) Start)
-        (known-at : Triple 𝓤 (𝓣 .C #orders·gathering·order-at) At) (known-with : Triple 𝓤 (𝓣 .C #orders·gathering·with) With) where
-      walk : Room T.the-row n → ent 𝓤 (onEntry 𝓤 H A gather.signature (κ, tt) (q, tt) (s, tt) (val s ∷ [], tt)) (Code (val s ∷ []) Post)
-      unfolding afterTurn
-      walk g =
+    module _ (known-at : Triple 𝓤 (𝓣 .C #orders·gathering·order-at) At) (known-with : Triple 𝓤 (𝓣 .C #orders·gathering·with) With) where
+      -- ---- the loop and what comes after it, with the locals at l₀ to l₇
+      module _ (l₀ l₁ l₂ l₃ l₄ l₅ l₆ l₇ : ℕ) where
+        abbrev En : Env 𝓤 H
+        En = (S′.mir, l₀) ∷ (slice, l₁) ∷ (word, l₂) ∷ (word, l₃) ∷ (S′.mir, l₄) ∷ (word, l₅) ∷ (T′.mir, l₆) ∷ (tyBool, l₇) ∷ []
+
+        -- what no turn changes
+        abbrev Frame : List (Item 𝓤)
+        Frame =
+            ‵ (flft κ q) ∷ ‵ (ShrSlice (named 0) κ T.the-row .own s (val s ∷ []))
+            ∷ ‵ (wordAt l₃ m) ∷ ‵ (wordAt l₂ n) ∷ ‵ (fat fullShare slice l₁ 0 (val s)) ∷ ‵ (froom S′.mir l₀ 0)
+            ∷ ‵ (fdies S′.mir l₀) ∷ ‵ (fdies slice l₁) ∷ ‵ (fdies word l₂) ∷ ‵ (fdies word l₃)
+            ∷ ‵ (fdies S′.mir l₄) ∷ ‵ (fdies word l₅) ∷ ‵ (fdies T′.mir l₆) ∷ ‵ (fdies tyBool l₇) ∷ []
+
+        -- a local that holds `G i`, and what that owns
+        abbrev held : ℕ → Val → Fml
+        held i u = fsep (fat fullShare S′.mir l₄ 0 u) (S.the-row .own (G i) (u ∷ []))
+
+        abbrev Tested : Bool → Fml
+        Tested t = fat fullShare tyBool l₇ 0 (vbool t)
+
+        abbrev Inv : ℕ → List (Item 𝓤)
+        Inv i = ‵ (flt i (m + 1)) ∷ ‵ (fex Val (held i)) ∷ ‵ (wordAt l₅ i) ∷ ‵ (froom T′.mir l₆ 0) ∷ ‵ (froom tyBool l₇ 0) ∷ Frame
+
+        turns : Seq (Go {0}) W (Inv 0) (runs (𝓣 .C) (𝓣 .Λ) En body.t-5 (atRet En Post))
+        unfolding afterTurn
+        turns =
+            first ! $ blocks ! $ loops ! 𝓣 Fewer (InvImage·wf (λ (a : ℕ). m - a) (Nat·lt-wfRel .wf)) Inv (λ i. fltL ! (λ top. fpick ! (λ u. fsplit ! $
+            -- [g; what it owns; i; room for o; room for the test; the token; what orders owns; m; n; orders; room for _0; and that each local dies]
+            sets ! (bin ! (read ! 2 refl) (read ! 7 refl) tt) (init ! 4 refl (tt, tt)) $
+            elim (either i m top) [
+              | inl l ↦
+                  rewrite ! 4 (λ (t : Bool). ‵ (Tested t)) (lt-ltb i m l) refl $ stays ! (read ! 4 refl) $
+                  move ! (6 ∷ []) $ doubles ! (named 0) κ T.the-row s (val s ∷ []) $ number ! i (small n i l .2) $ move ! (8 ∷ 1 ∷ 0 ∷ []) $
+                  -- [the token; what orders owns; i's; orders's; g; what it owns; i; room for o; the test; m; n; orders; room for _0; …]
+                  asks W order-at.ended (order-at.clauses 𝓤 H A mem run) (κ, tt) (q, tt) (s, (i, tt)) (val s ∷ [], (vint w64 i ∷ [], tt)) tt tt ! fm known-at
+                  (factI 𝓤 (i < n) (emp 𝓤) (small n i l .0)) (two ! (read ! 9 refl) (read ! 4 refl))
+                  (λ o ws. o ≡ getD ys i none) (λ o ws. id⊢ 𝓤 _) (λ w o ws₂ e₂ is₂. drop ! $
+                  -- [what o owns; the token; what orders owns; g; what it owns; i; room for o; the test; m; n; orders; …]
+                  gets ! (init ! 6 refl (order-lawful .typed o _ is₂ .0)) $ number ! i (small n i l .2) $ move ! (5 ∷ 0 ∷ 1 ∷ []) $
+                  asks W with′.ended (with′.clauses 𝓤 H A mem run) tt tt (G i, (i, (o, tt))) (u ∷ [], (vint w64 i ∷ [], (w ∷ [], tt))) tt tt ! fm known-with
+                  (factI 𝓤 (i < 16) (emp 𝓤) (small n i l .1)) (three ! (read ! 3 refl) (read ! 4 refl) (read ! 5 refl))
+                  (λ r₂ ws. r₂ ≡ stored (G i) i o) (λ r₂ ws. id⊢ 𝓤 _) (λ u₂ r₂ ws₃ e₃ is₃. drop ! $
+                  -- [what r₂ owns; the token; what orders owns; g; i; o; the test; m; n; orders; room for _0; …]
+                  gets ! (store ! 3 refl (lawful .typed r₂ _ is₃ .0)) $
+                  rewrite ! 0 (λ (d : Gathered). ‵ (S.the-row .own d (u₂ ∷ []))) (e₃ ∙ (ap (stored (G i) i) e₂ ∙ next-is i)) refl $
+                  assigns-last ! (bin ! (read ! 4 refl) (lit ! tt) (record { fits = small n i l .3 })) (from ! (stop !))
+                  (store ! 4 refl (int-fits (small n i l .3))) $
+                  forget ! 5 refl $ forget ! 6 refl $ move ! (3 ∷ 0 ∷ []) $ fjoin ! $ fpack ! Val (held (i + 1)) u₂ $ fltI ! (i + 1) (m + 1) (more m i l) $
+                  keep ! (0 ∷ 1 ∷ 4 ∷ 5 ∷ 6 ∷ 2 ∷ 3 ∷ 7 ∷ 8 ∷ 9 ∷ 10 ∷ 11 ∷ 12 ∷ 13 ∷ 14 ∷ 15 ∷ 16 ∷ 17 ∷ 18 ∷ []) $
+                  again ! Fewer Inv i (i + 1) (falls m i l)))
+              | inr ge ↦
+                  rewrite ! 4 (λ (t : Bool). ‵ (Tested t)) (le-ltb i m ge) refl $ leaves-loop ! (read ! 4 refl) $
+                  exec ! (𝓣 .C) (𝓣 .Λ) En body.t-6 (atRet En Post) $
+                  move ! (1 ∷ []) $ peeks ! S.the-row (Is S.the-row) (shows 𝓤 H A S.the-row) (G i) (u ∷ []) (λ is₄.
+                  -- [what g owns; g; i; room for o; the test; the token; what orders owns; m; n; orders; room for _0; …]
+                  rewrite ! 0 (λ (d : Gathered). ‵ (S.the-row .own d (u ∷ []))) (ap G (ends-loop m i top ge) ∙ last-is) refl $
+                  sets ! (of-opd ! (read ! 1 refl)) (init ! 10 refl (lawful .typed (G i) _ is₄ .0)) $ returns ! (look ! 10 refl) $
+                  gone ! 10 refl $ gone ! 9 refl $ gone ! 8 refl $ gone ! 7 refl $ forget ! 1 refl $ forget ! 2 refl $ forget ! 4 refl $
+                  freed ! 1 6 refl $ freed ! 1 5 refl $ freed ! 1 4 refl $ freed ! 1 3 refl $ free0 ! $ keep ! (1 ∷ 2 ∷ 0 ∷ []) $
+                  ends W gather.ended clauses (κ, tt) (q, tt) (s, tt) (val s ∷ [], tt) tt tt stayed ! u (gathered ys) (tt, tt) (tt, tt) $ says ! refl $ done !)
+            ]))) 0
+
+      walk : Triple 𝓤 (𝓣 .C #orders·gathering·upto) Upto → Triple 𝓤 (𝓣 .C #orders·gathering·start) Start → Room T.the-row n
+          → ent 𝓤 (onEntry 𝓤 H A gather.signature (κ, tt) (q, tt) (s, tt) (val s ∷ [], tt)) (Code (val s ∷ []) Post)
+      walk known-upto known-start g =
           begins W gather.signature (κ, tt) (q, tt) (s, tt) (val s ∷ [], tt) (enter ! (𝓣 .C) (𝓣 .Λ) code.function (val s ∷ []) _ $
           alloc2 ! (λ l₀ l₁. alloc2 ! (λ l₂ l₃. alloc2 ! (λ l₄ l₅. alloc2 ! (λ l₆ l₇. alloc0 ! $
           params1 ! $ pass1 ! (init ! 12 refl (slice-fits (g .0))) $ pass0 ! $
@@ -206,43 +254,7 @@ module _ {M : Type 1} (𝓤 : URA M) (H : Heap 𝓤) (A : Atoms 𝓤) (W : Given
           gets ! (init ! 7 refl (lawful .typed r₁ _ is₁ .0)) $ rewrite ! 0 (λ (d : Gathered). ‵ (S.the-row .own d (u₁ ∷ []))) (e₁ ∙ sym first-is) refl $
           sets ! (of-opd ! (lit ! tt)) (init ! 5 refl (int-fits (lit< tt))) $
           move ! (7 ∷ 0 ∷ []) $ fjoin ! $ fpack ! Val (held l₀ l₁ l₂ l₃ l₄ l₅ l₆ l₇ 0) u₁ $ fltI ! 0 (m + 1) (above m) $
-          keep ! (0 ∷ 1 ∷ 6 ∷ 4 ∷ 2 ∷ 17 ∷ 18 ∷ 9 ∷ 11 ∷ 13 ∷ 15 ∷ 16 ∷ 14 ∷ 12 ∷ 10 ∷ 8 ∷ 7 ∷ 5 ∷ 3 ∷ []) $ first ! $ blocks ! $
-          loops ! 𝓣 Fewer (InvImage·wf (λ (a : ℕ). m - a) (Nat·lt-wfRel .wf)) (Inv l₀ l₁ l₂ l₃ l₄ l₅ l₆ l₇) (λ i. fltL ! (λ top. fpick ! (λ u. fsplit ! $
-          -- [g; what it owns; i; room for o; room for the test; the token; what orders owns; m; n; orders; room for _0; and that each local dies]
-          sets ! (bin ! (read ! 2 refl) (read ! 7 refl) tt) (init ! 4 refl (tt, tt)) $
-          elim (either i m top) [
-            | inl l ↦
-                rewrite ! 4 (λ (t : Bool). ‵ (fat fullShare tyBool l₇ 0 (vbool t))) (lt-ltb i m l) refl $ stays ! (read ! 4 refl) $
-                move ! (6 ∷ []) $ doubles ! (named 0) κ T.the-row s (val s ∷ []) $ number ! i (small n i l .2) $ move ! (8 ∷ 1 ∷ 0 ∷ []) $
-                -- [the token; what orders owns; i's; orders's; g; what it owns; i; room for o; the test; m; n; orders; room for _0; …]
-                asks W order-at.ended (order-at.clauses 𝓤 H A mem run) (κ, tt) (q, tt) (s, (i, tt)) (val s ∷ [], (vint w64 i ∷ [], tt)) tt tt ! fm known-at
-                (factI 𝓤 (i < n) (emp 𝓤) (small n i l .0)) (two ! (read ! 9 refl) (read ! 4 refl))
-                (λ o ws. o ≡ getD ys i none) (λ o ws. id⊢ 𝓤 _) (λ w o ws₂ e₂ is₂. drop ! $
-                -- [what o owns; the token; what orders owns; g; what it owns; i; room for o; the test; m; n; orders; …]
-                gets ! (init ! 6 refl (LL.lawful T.the-type T′.the-laws 𝓤 H A W .typed o _ is₂ .0)) $ number ! i (small n i l .2) $ move ! (5 ∷ 0 ∷ 1 ∷ []) $
-                asks W with′.ended (with′.clauses 𝓤 H A mem run) tt tt (G i, (i, (o, tt))) (u ∷ [], (vint w64 i ∷ [], (w ∷ [], tt))) tt tt ! fm known-with
-                (factI 𝓤 (i < 16) (emp 𝓤) (small n i l .1)) (three ! (read ! 3 refl) (read ! 4 refl) (read ! 5 refl))
-                (λ r₂ ws. r₂ ≡ stored (G i) i o) (λ r₂ ws. id⊢ 𝓤 _) (λ u₂ r₂ ws₃ e₃ is₃. drop ! $
-                -- [what r₂ owns; the token; what orders owns; g; i; o; the test; m; n; orders; room for _0; …]
-                gets ! (store ! 3 refl (lawful .typed r₂ _ is₃ .0)) $
-                rewrite ! 0 (λ (d : Gathered). ‵ (S.the-row .own d (u₂ ∷ []))) (e₃ ∙ (ap (stored (G i) i) e₂ ∙ next-is i)) refl $
-                assigns-last ! (bin ! (read ! 4 refl) (lit ! tt) (record { fits = small n i l .3 })) (from ! (stop !))
-                (store ! 4 refl (int-fits (small n i l .3))) $
-                forget ! 5 refl $ forget ! 6 refl $ move ! (3 ∷ 0 ∷ []) $ fjoin ! $ fpack ! Val (held l₀ l₁ l₂ l₃ l₄ l₅ l₆ l₇ (i + 1)) u₂ $
-                fltI ! (i + 1) (m + 1) (more m i l) $
-                keep ! (0 ∷ 1 ∷ 4 ∷ 5 ∷ 6 ∷ 2 ∷ 3 ∷ 7 ∷ 8 ∷ 9 ∷ 10 ∷ 11 ∷ 12 ∷ 13 ∷ 14 ∷ 15 ∷ 16 ∷ 17 ∷ 18 ∷ []) $
-                again ! Fewer (Inv l₀ l₁ l₂ l₃ l₄ l₅ l₆ l₇) i (i + 1) (falls m i l)))
-            | inr ge ↦
-                rewrite ! 4 (λ (t : Bool). ‵ (fat fullShare tyBool l₇ 0 (vbool t))) (le-ltb i m ge) refl $ leaves-loop ! (read ! 4 refl) $
-                exec ! (𝓣 .C) (𝓣 .Λ) (En l₀ l₁ l₂ l₃ l₄ l₅ l₆ l₇) body.t-6 (atRet (En l₀ l₁ l₂ l₃ l₄ l₅ l₆ l₇) Post) $
-                move ! (1 ∷ []) $ peeks ! S.the-row (Is S.the-row) (shows 𝓤 H A S.the-row) (G i) (u ∷ []) (λ is₄.
-                -- [what g owns; g; i; room for o; the test; the token; what orders owns; m; n; orders; room for _0; …]
-                rewrite ! 0 (λ (d : Gathered). ‵ (S.the-row .own d (u ∷ []))) (ap G (ends-loop m i top ge) ∙ last-is) refl $
-                sets ! (of-opd ! (read ! 1 refl)) (init ! 10 refl (lawful .typed (G i) _ is₄ .0)) $ returns ! (look ! 10 refl) $
-                gone ! 10 refl $ gone ! 9 refl $ gone ! 8 refl $ gone ! 7 refl $ forget ! 1 refl $ forget ! 2 refl $ forget ! 4 refl $
-                freed ! 1 6 refl $ freed ! 1 5 refl $ freed ! 1 4 refl $ freed ! 1 3 refl $ free0 ! $ keep ! (1 ∷ 2 ∷ 0 ∷ []) $
-                ends W gather.ended clauses (κ, tt) (q, tt) (s, tt) (val s ∷ [], tt) tt tt stayed ! u (gathered ys) (tt, tt) (tt, tt) $ says ! refl $ done !)
-          ]))) 0)))))))
+          keep ! (0 ∷ 1 ∷ 6 ∷ 4 ∷ 2 ∷ 17 ∷ 18 ∷ 9 ∷ 11 ∷ 13 ∷ 15 ∷ 16 ∷ 14 ∷ 12 ∷ 10 ∷ 8 ∷ 7 ∷ 5 ∷ 3 ∷ []) $ turns l₀ l₁ l₂ l₃ l₄ l₅ l₆ l₇)))))))
 
   gather-meets : Triple 𝓤 (𝓣 .C #orders·gathering·upto) Upto → Triple 𝓤 (𝓣 .C #orders·gathering·start) Start
       → Triple 𝓤 (𝓣 .C #orders·gathering·order-at) At → Triple 𝓤 (𝓣 .C #orders·gathering·with) With
@@ -251,7 +263,7 @@ module _ {M : Type 1} (𝓤 : URA M) (H : Heap 𝓤) (A : Atoms 𝓤) (W : Given
       walk-meets 𝓤 H A gather.ended stayed W (goes-none-slice 𝓤 H A W 1 (0 ∷ []) tt (plain (λ _. T.the-row)) yes, tt)
       clauses Code (WpFn-mono 𝓤 H (W .laws) 𝓣 code.function)
       (walked 𝓤 H A gather.ended stayed clauses Code (λ κs. (slice-vals, tt)) (λ κs. (shr-slice-tells (named 0) (κs .0) T.the-row, tt))
-      (λ κs qs bounds a g are. via 𝓤 _ (fst∗ 𝓤 _ (emp 𝓤)) (walk (κs .0) (qs .0) (a .0) known-upto known-start known-at known-with (are .0 .0 .1))))
+      (λ κs qs bounds a g are. via 𝓤 _ (fst∗ 𝓤 _ (emp 𝓤)) (walk (κs .0) (qs .0) (a .0) known-at known-with known-upto known-start (are .0 .0 .1))))
 
 pub gather-spec : {M : Type 1} → stated.statement M
 unfolding code.routine tablesOf
