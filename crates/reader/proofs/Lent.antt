@@ -46,6 +46,8 @@ use Rattle.meaning.specs.Says.{foundSays}
 use Rattle.meaning.specs.declared.Found.{Found}
 use Rattle.meaning.proofs.Found as E
 use Rattle.meaning.proofs.Found.Laws as E′
+use Rattle.meaning.proofs.Place as P
+use Rattle.meaning.proofs.Place.Laws as P′
 use Rattle.reader.specs.Steps.{opened, answer, standing, moved}
 use Rattle.reader.specs.declared.Reader.{Reader}
 use Rattle.leaves.proofs.Walking.{val, doubles, number, asks}
@@ -97,9 +99,12 @@ abbrev pub Lies : Lft → ℕ → Reader → Fml
 Lies κ l h = partAt (R κ) fullShare h l 0
 
 module _ {M : Type 1} {𝓤 : URA M} {H : Heap 𝓤} {A : Atoms 𝓤} (W : Given 𝓤 H A) where
-  -- what a local of the type can hold
+  -- what locals of these types can hold
   abbrev pub found-lawful : Lawful 𝓤 H A E.the-row
   found-lawful = EL.lawful E.the-type E′.the-laws 𝓤 H A W tt
+
+  abbrev pub place-lawful : Lawful 𝓤 H A P.the-row
+  place-lawful = LL.lawful P.the-type P′.the-laws 𝓤 H A W
 
   abbrev pub reader-lawful : (κ : Lft) → Lawful 𝓤 H A (T.the-row (αᵉ κ))
   reader-lawful κ = LL.lawful (D (αᵉ κ)) (L (αᵉ κ)) 𝓤 H A W

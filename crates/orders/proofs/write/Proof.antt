@@ -39,7 +39,7 @@ use Rattle.meaning.proofs.Sized as E
 use Rattle.meaning.proofs.Sized.Laws as E′
 use Rattle.orders.specs.Gathering.{gathered, writeGathered}
 use Rattle.orders.proofs.Gathers.{Told, told}
-use Rattle.leaves.proofs.Walking.{begins, alloc2, val, slice-fits, one, two, three, read, read-field, sets, gets, gone, doubles, asks, ends}
+use Rattle.leaves.proofs.Walking.{begins, alloc2, val, slice-fits, one, two, three, read, read-field, sets, gets, all-gone, doubles, asks, ends}
 use Rattle.orders.specs.declared.Order.{Order}
 use Rattle.orders.specs.declared.gathering.Gathered.{Gathered}
 use Rattle.orders.proofs.Order as T
@@ -132,8 +132,7 @@ module _ {M : Type 1} (𝓤 : URA M) (H : Heap 𝓤) (A : Atoms 𝓤) (W : Given
           move ! (1 ∷ []) $ fsplit ! $ fsplit ! $ move ! (1 ∷ []) $ feqL ! (λ lo.
           -- [out's last list; true; work's; what the result owns; three tokens; what joined owns; the first token; what orders owns; _9; …; _0; …]
           gets ! (init ! 28 refl (EL.lawful E.the-type E′.the-laws 𝓤 H A W tt .typed r′ _ is′ .0)) $ returns ! (look ! 28 refl) $
-          gone ! 28 refl $ gone ! 26 refl $ gone ! 24 refl $ gone ! 22 refl $ gone ! 20 refl $
-          gone ! 18 refl $ gone ! 16 refl $ gone ! 14 refl $ gone ! 12 refl $ gone ! 10 refl $ free0 ! $ keep ! (8 ∷ 4 ∷ 5 ∷ 6 ∷ 9 ∷ 7 ∷ 2 ∷ 0 ∷ 3 ∷ []) $
+          all-gone ! (28 ∷ 26 ∷ 24 ∷ 22 ∷ 20 ∷ 18 ∷ 16 ∷ 14 ∷ 12 ∷ 10 ∷ []) _ refl $ free0 ! $ keep ! (8 ∷ 4 ∷ 5 ∷ 6 ∷ 9 ∷ 7 ∷ 2 ∷ 0 ∷ 3 ∷ []) $
           ends W write.ended clauses κs qs args at tt tt stayed ! u′ r′ (tt, (tt, (zs .1 .1 .0, (zs .1 .1 .1 .0, tt)))) (tt, (tt, (lw, (lo, tt)))) $
           says ! (told (now s) (now j) (length (now w)) (now o) r′ (zs .1 .1 .1 .0) e′) $ done !))))))))))
 

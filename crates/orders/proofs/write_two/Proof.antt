@@ -53,7 +53,7 @@ use Rattle.meaning.proofs.Sized as E
 use Rattle.meaning.proofs.Sized.Laws as E′
 use Rattle.orders.specs.Orders.{orderSays}
 use Rattle.orders.proofs.Gathers.{Told}
-use Rattle.leaves.proofs.Walking.{begins, alloc2, val, slice-fits, two, three, address, read, read-field, sets, gets, freed, gone, doubles, asks, ends}
+use Rattle.leaves.proofs.Walking.{begins, alloc2, val, slice-fits, two, three, address, read, read-field, sets, gets, freed, all-gone, doubles, asks, ends}
 use Rattle.orders.specs.declared.Order.{Order}
 use Rattle.orders.proofs.Order as T
 use Rattle.orders.proofs.Order.Laws as T′
@@ -94,7 +94,7 @@ rows = tyArray T′.mir 2
 abbrev orderVal : Order → Val
 orderVal a = LL.tuple-val T.the-type T′.the-laws (T.the-type .to a)
 
--- a machine value is that of an order
+-- the machine value of an order holds it
 abbrev Held : Order → Type 0
 Held a = Is T.the-row a (orderVal a ∷ [])
 
@@ -208,8 +208,8 @@ module _ {M : Type 1} (𝓤 : URA M) (H : Heap 𝓤) (A : Atoms 𝓤) (W : Given
           -- [room for _6; out's last list; true; work's; what the result owns; three tokens; joined's;
           -- _12; …; _7; …; that _6 dies; _5; …; room for _0; …; a's; b's]
           gets ! (init ! 32 refl (EL.lawful E.the-type E′.the-laws 𝓤 H A W tt .typed r _ isr .0)) $ returns ! (look ! 32 refl) $
-          gone ! 32 refl $ gone ! 30 refl $ gone ! 28 refl $ gone ! 26 refl $ gone ! 24 refl $ gone ! 22 refl $ freed ! 0 20 refl $
-          gone ! 18 refl $ gone ! 16 refl $ gone ! 14 refl $ gone ! 12 refl $ gone ! 10 refl $ gone ! 8 refl $ free0 ! $
+          all-gone ! (32 ∷ 30 ∷ 28 ∷ 26 ∷ 24 ∷ 22 ∷ []) _ refl $ freed ! 0 20 refl $
+          all-gone ! (18 ∷ 16 ∷ 14 ∷ 12 ∷ 10 ∷ 8 ∷ []) _ refl $ free0 ! $
           keep ! (4 ∷ 5 ∷ 6 ∷ 8 ∷ 9 ∷ 7 ∷ 2 ∷ 0 ∷ 3 ∷ []) $ ends W write-two.ended clauses κs qs args at tt tt stayed ! u r
           (tt, (tt, (tt, (zs .1 .1 .0, (zs .1 .1 .1 .0, tt))))) (tt, (tt, (tt, (lw, (lo, tt))))) $ says ! e $ done !)))))))))))))
 

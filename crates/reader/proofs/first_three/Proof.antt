@@ -45,7 +45,7 @@ use Rattle.reader.specs.declared.Reader.{Reader}
 use Rattle.reader.specs.declared.FirstThree.{FirstThree}
 use Rattle.reader.proofs.Calls.{stands-first, stands-next, tells-call}
 use Rattle.reader.proofs.Lent.{Open, Step, Lies, readerRoom, foundVal, found-lawful, reader-lawful, comes-in, goes-out, stepping, opening}
-use Rattle.leaves.proofs.Walking.{begins, alloc2, val, slice-fits, int-fits, one, three, address, read, sets, gets, freed, gone, ends}
+use Rattle.leaves.proofs.Walking.{begins, alloc2, val, slice-fits, int-fits, one, three, address, read, sets, gets, freed, all-gone, ends}
 use Rattle.reader.proofs.Reader.Laws as T′
 use Rattle.reader.proofs.FirstThree as F
 use Rattle.reader.proofs.FirstThree.Laws as F′
@@ -86,7 +86,7 @@ made x y z = record { first = x; second = y; third = z }
 abbrev mach : Found → Found → Found → Val
 mach x y z = LL.tuple-val F.the-type F′.the-laws (F.the-type .to (made x y z))
 
--- a machine value is that of an answer
+-- the machine value of an answer holds it
 abbrev Held : Found → Type 0
 Held x = Is E.the-row x (foundVal x ∷ [])
 
@@ -141,8 +141,8 @@ module _ {M : Type 1} (𝓤 : URA M) (H : Heap 𝓤) (A : Atoms 𝓤) (W : Given
         use1 W (‵ (readerRoom l₄)) (goes-out W κ l₄ (moved (moved (moved r)))) $
         sets ! (agg ! (three ! (read ! 18 refl) (read ! 16 refl) (read ! 14 refl)))
         (init ! 26 refl (three-lawful .typed (made x y z) _ (made-is x y z isx isy isz) .0)) $
-        returns ! (look ! 26 refl) $ gone ! 26 refl $ gone ! 24 refl $ gone ! 22 refl $ freed ! 3 20 refl $ freed ! 0 18 refl $
-        gone ! 16 refl $ gone ! 14 refl $ gone ! 12 refl $ gone ! 10 refl $ gone ! 8 refl $ gone ! 6 refl $ gone ! 4 refl $ gone ! 2 refl $ free0 ! $
+        returns ! (look ! 26 refl) $ all-gone ! (26 ∷ 24 ∷ 22 ∷ []) _ refl $ freed ! 3 20 refl $ freed ! 0 18 refl $
+        all-gone ! (16 ∷ 14 ∷ 12 ∷ 10 ∷ 8 ∷ 6 ∷ 4 ∷ 2 ∷ []) _ refl $ free0 ! $
         owned ! F.the-row (Is F.the-row) (LL.makes F.the-type F′.the-plain 𝓤 H A) (made x y z) _ (made-is x y z isx isy isz) $ keep ! (1 ∷ 2 ∷ 3 ∷ 0 ∷ []) $
         ends W first-three.ended clauses (κ, tt) (q, tt) args at tt tt stayed ! (mach x y z) (made x y z) (tt, (tt, tt)) (tt, (tt, tt)) $
         says ! (three-calls (now s) c r x y z (record { opens = e; first = ex; second = ey; third = ez })) $ done !))))))))))))

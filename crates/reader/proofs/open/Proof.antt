@@ -48,7 +48,8 @@ use Rattle.meaning.proofs.Place as P
 use Rattle.meaning.proofs.Place.Laws as P′
 use Rattle.reader.specs.Steps.{opened, standing}
 use Rattle.reader.specs.declared.Reader.{Reader}
-use Rattle.leaves.proofs.Walking.{begins, alloc2, val, slice-fits, int-fits, one, three, read, sets, gets, gone, doubles, number, asks, ends}
+use Rattle.leaves.proofs.Walking.{begins, alloc2, val, slice-fits, int-fits, one, three, read, sets, gets, all-gone, doubles, number, asks, ends}
+use Rattle.reader.proofs.Lent.{place-lawful}
 use Rattle.reader.proofs.Reader as T
 use Rattle.reader.proofs.Reader.Laws as T′
 use Rattle.reader.proofs.part_of as part
@@ -86,9 +87,6 @@ module _ {M : Type 1} (𝓤 : URA M) (H : Heap 𝓤) (A : Atoms 𝓤) (W : Given
 
   abbrev Part : Contract 𝓤
   Part = tripleOf 𝓤 H A part.signature (part.spec 𝓤 H A mem run)
-
-  abbrev place-lawful : Lawful 𝓤 H A P.the-row
-  place-lawful = LL.lawful P.the-type P′.the-laws 𝓤 H A W
 
   module _ (κs : Lfts 2) (qs : Shares 2) (s : RefT (List ℕ)) (c : ℕ) (f : RefT ℕ) where
     -- the struct's type and its laws
@@ -149,10 +147,10 @@ module _ {M : Type 1} (𝓤 : URA M) (H : Heap 𝓤) (A : Atoms 𝓤) (W : Given
         gets ! (init ! 10 refl (shr-slice-lawful 𝓤 H A W erased (κs .0) u8 .typed r (u ∷ []) is .0)) $
         rewrite ! 10 (λ (w : Val). ‵ (fat fullShare slice l₄ 0 w)) (ap only (is .0 .0)) refl $
         rewrite ! 2 (λ (ws : List Val). ‵ (Slice .own r ws)) (is .0 .0) refl $
-        sets ! (agg ! (one ! (lit ! tt))) (init ! 6 refl (place-lawful .typed start _ start-is .0)) $
+        sets ! (agg ! (one ! (lit ! tt))) (init ! 6 refl (place-lawful W .typed start _ start-is .0)) $
         sets ! (agg ! (three ! (read ! 10 refl) (read ! 14 refl) (read ! 6 refl)))
         (init ! 18 refl (reader-lawful .typed (made r) _ (made-is r (subst (Is Slice r) (is .0 .0) is) c-fits) .0)) $ returns ! (look ! 18 refl) $
-        gone ! 18 refl $ gone ! 16 refl $ gone ! 14 refl $ gone ! 12 refl $ gone ! 10 refl $ gone ! 8 refl $ gone ! 6 refl $ free0 ! $
+        all-gone ! (18 ∷ 16 ∷ 14 ∷ 12 ∷ 10 ∷ 8 ∷ 6 ∷ []) _ refl $ free0 ! $
         -- what the part owns is, with the facts of the column and the place, what the struct owns
         move ! (2 ∷ []) $ nothing ! $ owned ! P.the-row (Is P.the-row) (LL.makes P.the-type P′.the-plain 𝓤 H A) start _ start-is $ fjoin ! $
         number ! c c-fits $ fjoin ! $ move ! (1 ∷ 0 ∷ []) $ fjoin ! $

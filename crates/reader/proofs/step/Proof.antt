@@ -17,7 +17,7 @@ use prog.Memory.{Memory}
 use prog.Routine.{Routine}
 use prog.Wp.{Heap, WpFn, Tables}
 use ghost.Atoms.{Atoms, sem}
-use contract.Lifetimes.{AllOutlive}
+use contract.Lifetimes.{Lfts, Shares, AllOutlive}
 use contract.Monad.{Fun}
 use contract.Running.{givenOf, tables, tablesOf}
 use types.Kit.{Given, ‵, given, _⊛_, ⋆, _$_, _∵_, !, qed, by, move, keep, drop, use1, split, learn, rewrite, fsplit3, fjoin3, feqI, done}
@@ -54,7 +54,8 @@ use Rattle.meaning.proofs.Place.Laws as P′
 use Rattle.reader.specs.Steps.{nextPlace, moved}
 use Rattle.reader.specs.declared.Reader.{Reader}
 use Rattle.reader.specs.declared.Looked.{Looked}
-use Rattle.leaves.proofs.Walking.{begins, alloc2, val, slice-fits, int-fits, three, read, read-field, sets, gets, gone, number, asks, ends}
+use Rattle.leaves.proofs.Walking.{begins, alloc2, val, slice-fits, int-fits, three, read, read-field, sets, gets, all-gone, number, asks, ends}
+use Rattle.reader.proofs.Lent.{foundVal, found-lawful, place-lawful}
 use Rattle.reader.proofs.Reader as T
 use Rattle.reader.proofs.Reader.Laws as T′
 use Rattle.reader.proofs.Looked as K
@@ -82,7 +83,7 @@ abbrev stayed : Stays (step′.ended .signature .params) (step′.ended .kept)
 stayed = (stay-ref (0 ∷ []) tt behind, tt)
 
 -- the machine values of what the call gives: of its answer, and of the next place
-answer-is : (r : Looked) (vs : List Val) → Is K.the-row r vs → Is E.the-row (r .answer) (EL.val E.the-type E′.the-laws (r .answer) ∷ [])
+answer-is : (r : Looked) (vs : List Val) → Is K.the-row r vs → Is E.the-row (r .answer) (foundVal (r .answer) ∷ [])
 answer-is r vs is = LL.owed K.the-type K′.the-laws r vs is .0
 
 next-is : (r : Looked) (vs : List Val) → Is K.the-row r vs → Is P.the-row (r .next) (P′.lowered (r .next) ∷ [])
@@ -99,25 +100,24 @@ module _ {M : Type 1} (𝓤 : URA M) (H : Heap 𝓤) (A : Atoms 𝓤) (W : Given
   abbrev LookOn : Contract 𝓤
   LookOn = tripleOf 𝓤 H A look-on.signature (look-on.spec 𝓤 H A at-mem run)
 
-  -- what locals of these types can hold
-  abbrev place-lawful : Lawful 𝓤 H A P.the-row
-  place-lawful = LL.lawful P.the-type P′.the-laws 𝓤 H A W
-
-  abbrev found-lawful : Lawful 𝓤 H A E.the-row
-  found-lawful = EL.lawful E.the-type E′.the-laws 𝓤 H A W tt
-
   abbrev looked-lawful : Lawful 𝓤 H A K.the-row
   looked-lawful = LL.lawful K.the-type K′.the-laws 𝓤 H A W
 
   module _ (κ κ′ : Lft) (q q′ : Share) (bounds : AllOutlive 2 (step′.signature .outlives) (κ, (κ′, tt))) (b o : ℕ) (γ : GName) (h : Reader) where
-    abbrev x : Args step′.signature (κ, (κ′, tt))
+    abbrev κs : Lfts 2
+    κs = (κ, (κ′, tt))
+
+    abbrev qs : Shares 2
+    qs = (q, (q′, tt))
+
+    abbrev x : Args step′.signature κs
     x = (record { ptr = (b, o); name = γ; now = h }, tt)
 
-    abbrev at : Vals step′.signature (κ, (κ′, tt))
+    abbrev at : Vals step′.signature κs
     at = (vptr b o ∷ [], tt)
 
     abbrev Post : Val → SProp 𝓤
-    Post = walkOf 𝓤 H A step′.ended stayed clauses .post (((κ, (κ′, tt)), (q, (q′, tt)), bounds, x, at), tt)
+    Post = walkOf 𝓤 H A step′.ended stayed clauses .post ((κs, qs, bounds, x, at), tt)
 
     -- the struct with the place that the call tells
     abbrev h′ : Looked → Reader
@@ -156,7 +156,7 @@ module _ {M : Type 1} (𝓤 : URA M) (H : Heap 𝓤) (A : Atoms 𝓤) (W : Given
     abbrev Own : Fml
     Own = B κ′ .own h (mach ∷ [])
 
-    -- what is known of the fields, of the struct's machine value
+    -- what the struct's machine value tells of its fields
     sheet-fits : Is (B κ′) h (mach ∷ []) → length (h .sheet .now) < 2 ^ 64
     sheet-fits was = LL.owed D L h (mach ∷ []) was .0 .0 .1 .0
 
@@ -183,9 +183,9 @@ module _ {M : Type 1} (𝓤 : URA M) (H : Heap 𝓤) (A : Atoms 𝓤) (W : Given
         use1 W (‵ (ownAt (D .parts) L 0 (h .sheet)) ⊛ ‵ (rest (D .parts) L 0 vd)) (own-out 𝓤 H A W (D .parts) L 0 vd) $ split ! $ keep ! (0 ∷ 2 ∷ []) $ done !)
 
     walk : Triple 𝓤 (𝓣 .C #reader·look-on) LookOn
-        → ent 𝓤 (onEntry 𝓤 H A step′.signature (κ, (κ′, tt)) (q, (q′, tt)) x at) (Code (vptr b o ∷ []) Post)
+        → ent 𝓤 (onEntry 𝓤 H A step′.signature κs qs x at) (Code (vptr b o ∷ []) Post)
     walk known =
-        begins W step′.signature (κ, (κ′, tt)) (q, (q′, tt)) x at (enter ! (𝓣 .C) (𝓣 .Λ) code.function (vptr b o ∷ []) _ $
+        begins W step′.signature κs qs x at (enter ! (𝓣 .C) (𝓣 .Λ) code.function (vptr b o ∷ []) _ $
         alloc2 ! (λ l₀ l₁. alloc2 ! (λ l₂ l₃. alloc2 ! (λ l₄ l₅. alloc0 ! $ params1 ! $ pass1 ! (init ! 8 refl (tt, tt)) $ pass0 ! $
         -- [_5; …; _0; …; κ's token; κ′'s; what r owns]
         move ! (14 ∷ []) $ fsplit3 ! $ drop ! $ move ! (0 ∷ 1 ∷ 14 ∷ []) $
@@ -198,7 +198,7 @@ module _ {M : Type 1} (𝓤 : URA M) (H : Heap 𝓤) (A : Atoms 𝓤) (W : Given
         sets ! (of-opd ! (load ! (from ! (hop ! (look ! 13 refl) (fld ! refl (stop !)))) (look-in ! 0 (sub ! 1 refl (whole !)))))
         (init ! 7 refl (int-fits (column-fits was))) $
         sets ! (of-opd ! (load ! (from ! (hop ! (look ! 13 refl) (fld ! refl (stop !)))) (look-in ! 0 (sub ! 2 refl (whole !)))))
-        (init ! 5 refl (place-lawful .typed (h .place) _ (place-is was) .0)) $
+        (init ! 5 refl (place-lawful W .typed (h .place) _ (place-is was) .0)) $
         move ! (1 ∷ []) $ use1 W (‵ OwnS ⊛ ‵ Own) apart $ split ! $
         owned ! P.the-row (Is P.the-row) (LL.makes P.the-type P′.the-plain 𝓤 H A) (h .place) _ (place-is was) $
         number ! (h .column) (column-fits was) $ move ! (20 ∷ 2 ∷ 0 ∷ 1 ∷ []) $
@@ -210,18 +210,18 @@ module _ {M : Type 1} (𝓤 : URA M) (H : Heap 𝓤) (A : Atoms 𝓤) (W : Given
         rewrite ! 13 (λ (w : Val). ‵ (fat fullShare K′.mir l₂ 0 w)) (ap only (LL.tells K.the-type K′.the-laws r (u ∷ []) is)) refl $ drop ! $
         -- [κ′'s token; what the Reader owns; its cell; the open borrow; obs; auth; _5; …; _4; …; _3; …; _2; …; _1; …; room for _0; …]
         assigns ! (of-opd ! (read-field ! refl (look-in ! 12 (sub ! 1 refl (whole !))))) (from ! (hop ! (look ! 14 refl) (fld ! refl (stop !))))
-        (store-in ! 2 (sub ! 2 refl (whole !)) (place-lawful .typed (r .next) _ (next-is r _ is) .0)) $
+        (store-in ! 2 (sub ! 2 refl (whole !)) (place-lawful W .typed (r .next) _ (next-is r _ is) .0)) $
         sets ! (of-opd ! (read-field ! refl (look-in ! 12 (sub ! 0 refl (whole !)))))
-        (init ! 16 refl (found-lawful .typed (r .answer) _ (answer-is r _ is) .0)) $
+        (init ! 16 refl (found-lawful W .typed (r .answer) _ (answer-is r _ is) .0)) $
         -- the struct is put together again, at the next place, and the borrow is closed
         move ! (1 ∷ []) $ use1 W (‵ (B κ′ .own (h′ r) (mach′ r ∷ []))) (again r (next-is r _ is)) $
         move ! (2 ∷ []) $ use1 W (‵ (cellAt fullShare (B κ′ .mir) (mach′ r ∷ []) b o)) (W .laws .at-raw fullShare (T′.mir erased) b o (mach′ r)) $
         move ! (0 ∷ 1 ∷ 3 ∷ 4 ∷ 5 ∷ []) $ closes ! tt (B κ′) (h′ r) (mach′ r ∷ []) b o $
-        returns ! (look ! 14 refl) $ gone ! 14 refl $ gone ! 12 refl $ gone ! 10 refl $ gone ! 8 refl $ gone ! 6 refl $ gone ! 4 refl $ free0 ! $
+        returns ! (look ! 14 refl) $ all-gone ! (14 ∷ 12 ∷ 10 ∷ 8 ∷ 6 ∷ 4 ∷ []) _ refl $ free0 ! $
         feqI ! (List Val) (vptr b o ∷ []) (vptr b o ∷ []) refl $ fjoin3 ! $
         -- the answer owns facts alone, which the struct that held it has told
         owned ! E.the-row (Is E.the-row) (EL.makes E.the-type E′.the-plain 𝓤 H A) (r .answer) _ (answer-is r _ is) $
-        keep ! (2 ∷ 3 ∷ 1 ∷ 0 ∷ []) $ ends W step′.ended clauses (κ, (κ′, tt)) (q, (q′, tt)) x at tt bounds stayed ! _ (r .answer) (h′ r, tt) (tt, tt) $
+        keep ! (2 ∷ 3 ∷ 1 ∷ 0 ∷ []) $ ends W step′.ended clauses κs qs x at tt bounds stayed ! _ (r .answer) (h′ r, tt) (tt, tt) $
         says ! (e .0, moves r e) $ done !)))))))
 
   step-meets : Triple 𝓤 (𝓣 .C #reader·look-on) LookOn → Meets 𝓤 H A step′.signature Code (step′.spec 𝓤 H A at-mem run)

@@ -40,7 +40,7 @@ use denote.Exit.{yes}
 use Rattle.orders.specs.Gathering.{none}
 use Rattle.orders.specs.declared.Order.{Order}
 use Rattle.orders.proofs.Order as T
-use Rattle.leaves.proofs.Walking.{begins, alloc2, slice-fits, int-fits, read, read-field, sets, gone, ends}
+use Rattle.leaves.proofs.Walking.{begins, alloc2, slice-fits, int-fits, read, read-field, sets, all-gone, ends}
 use Rattle.orders.proofs.Order.Laws as T′
 use Rattle.orders.proofs.gathering.order_at.Key.{name as #orders·gathering·order-at}
 use Rattle.orders.proofs.gathering.order_at as order-at
@@ -113,7 +113,7 @@ module _ {M : Type 1} (𝓤 : URA M) (H : Heap 𝓤) (A : Atoms 𝓤) (W : Given
         -- [orders[i]; what it owns; the others; what shuts; what it owns; the fractured borrow; res; orders's fact; _5; …]
         elem-back ! T.the-row q′ ys i none (mach ∷ []) b o l $ shuts-slice ! tt T.the-row q′ ys b o $
         -- [the token; what the result owns; the fractured borrow; res; orders's fact; _5; …; _4; …; _3; …; _2; …; _1; …; _0; …; i's]
-        returns ! (look ! 15 refl) $ gone ! 15 refl $ gone ! 13 refl $ gone ! 11 refl $ gone ! 9 refl $ gone ! 7 refl $ gone ! 5 refl $ free0 ! $
+        returns ! (look ! 15 refl) $ all-gone ! (15 ∷ 13 ∷ 11 ∷ 9 ∷ 7 ∷ 5 ∷ []) _ refl $ free0 ! $
         move ! (3 ∷ 2 ∷ []) $ fjoin ! $ move ! (3 ∷ 0 ∷ []) $ fjoin ! $ keep ! (1 ∷ 0 ∷ 3 ∷ 2 ∷ []) $
         ends W order-at.ended clauses (κ, tt) (q, tt) (s, (i, tt)) at tt tt stayed ! mach elem (tt, (tt, tt)) (tt, (tt, tt)) $ says ! refl $ done !))))))
 
