@@ -4,17 +4,17 @@ use mathlib.Core.Path.{_≡_, refl, sym, ap, _∙_}
 use mathlib.Core.List.{List, [], _∷_, _++_}
 use native.Mathlib.Nat.{add-zero, add-assoc, sub-zero}
 use native.Mathlib.Omega.{arith}
-use lib.ListN.{length, getD, take, drop, set, length-append, length-take}
-use lib.Seq.{sets, length-sets, take-nil, take-all, take-take, drop-drop}
+use lib.ListN.{length, getD, take, drop, set, length-take}
+use lib.Seq.{sets, take-nil, take-all, take-take, drop-drop}
 use Rattle.meaning.specs.DataBytes.{byteLength, fewest, dataBytes}
 use Rattle.meaning.specs.Groups.{fours, groupCount, controlOf, control, writeGroups}
 use Rattle.meaning.specs.Lists.{joined}
 use Rattle.meaning.specs.Places.{Wrote, part}
 use Rattle.meaning.specs.declared.Offset.{Offset}
-use Rattle.meaning.proofs.Stores.{sets-append}
 use Rattle.meaning.proofs.Tests.{by-order}
 use Rattle.words.proofs.DataBytes.{few-length, data-cons, data-most}
 use Rattle.leaves.proofs.Parts.{part-length, part-cons}
+use Rattle.leaves.proofs.Putting.{Left, left-start, left-long, left-turn, left-end}
 use Rattle.groups.specs.Parts.{dataOf, controlsOf, groupsOf}
 use Rattle.groups.proofs.Fours.{groups-next, controls-next, controls-count, groups-size}
 
@@ -22,15 +22,14 @@ use Rattle.groups.proofs.Fours.{groups-next, controls-next, controls-co
 module _ (bytes : ℕ → ℕ → List ℕ) (from n at : ℕ) (out₀ : List ℕ) where
   pub record PutSo (out : List ℕ) (to i : ℕ) : Type 0 where
     pub most : i ≤ n
-    pub here : sets out to (bytes (from + i) (n - i)) ≡ sets out₀ at (bytes from n)
-    pub ends : to + length (bytes (from + i) (n - i)) ≡ at + length (bytes from n)
+    pub left : Left (bytes from n) at out₀ (bytes (from + i) (n - i)) out to
 
   pub put-start : PutSo out₀ at 0
-  put-start = record { most = omega arith; here = rw (add-zero from, sub-zero n); ends = rw (add-zero from, sub-zero n) }
+  put-start = record { most = omega arith; left = rw (add-zero from, sub-zero n) (left-start (bytes from n) at out₀) }
 
 module _ {bytes : ℕ → ℕ → List ℕ} {from n at : ℕ} {out₀ out : List ℕ} {to i : ℕ} (so : PutSo bytes from n at out₀ out to i) where
   pub put-long : length out ≡ length out₀
-  put-long = sym (length-sets out to (bytes (from + i) (n - i))) ∙ ap length (so .here) ∙ length-sets out₀ at (bytes from n)
+  put-long = left-long (so .left)
 
   -- those of k numbers have been put
   pub put-turn : (k : ℕ) {front out′ : List ℕ} {to′ : Offset} → i + k ≤ n → bytes (from + i) (n - i) ≡ front ++ bytes (from + i + k) (n - i - k)
@@ -38,18 +37,10 @@ module _ {bytes : ℕ → ℕ → List ℕ} {from n at : ℕ} {out₀ out : List
   put-turn k {front} h e p =
       let m : n - i - k ≡ n - (i + k) = omega arith in
       let e′ : bytes (from + i) (n - i) ≡ front ++ bytes (from + (i + k)) (n - (i + k)) = e ∙ rw (add-assoc from i k, m) in
-      let l = ap length e′ ∙ length-append front (bytes (from + (i + k)) (n - (i + k))) in
-      record {
-        most = h;
-        here = rw (p .here, p .ends) (sets-append front (bytes (from + (i + k)) (n - (i + k))) out to ∙ ap (sets out to) (sym e′)) ∙ so .here;
-        ends = omega (arith, p .ends, so .ends);
-      }
+      record { most = h; left = left-turn (so .left) e′ p }
 
   pub put-end : n ≤ i → ((place : ℕ) → bytes place 0 ≡ []) → Wrote (bytes from n) at out₀ out (record { byte = to })
-  put-end h none =
-      let m : n - i ≡ 0 = omega arith in
-      let e : bytes (from + i) (n - i) ≡ [] = rw m (none (from + i)) in
-      record { ends = sym (add-zero to) ∙ ap (λ (l : List ℕ). to + length l) (sym e) ∙ so .ends; here = ap (sets out to) (sym e) ∙ so .here }
+  put-end h none = let m : n - i ≡ 0 = omega arith in left-end (so .left) (rw m (none (from + i)))
 
 -- one byte put, and one number
 pub put-one : {b v at : ℕ} {out out′ : List ℕ} → out′ ≡ set out at b → b ≡ v → Wrote (v ∷ []) at out out′ (record { byte = at + 1 })
@@ -123,7 +114,7 @@ pub groups-room : (xs : List ℕ) {from n at : ℕ} {out₀ out : List ℕ} {to 
     → to + 1 ≤ at + 5 * n
 groups-room xs {from} {n} {i = i} so inside more =
     let next = groups-turn xs (from + i) (n - i) (omega arith) (omega arith) (min 4 (n - i)) refl in
-    omega (arith, ap length next, so .ends, groups-bound xs from n inside)
+    omega (arith, ap length next, so .left .ends, groups-bound xs from n inside)
 
 -- ---- the control byte of one to four numbers of a list
 module _ (xs : List ℕ) where

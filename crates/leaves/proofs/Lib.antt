@@ -1,4 +1,5 @@
 -- Laws that several crates cite.
 pub mod Joined
 pub mod Parts
+pub mod Putting
 pub mod Walking

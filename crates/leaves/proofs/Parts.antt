@@ -1,14 +1,12 @@
--- Parts of a list, by their length and their elements, and what is written part after part. Assumes nothing.
+-- Parts of a list, by their length and their elements. Assumes nothing.
 use Prim.Native.Nat.{ℕ, zero, suc, _+_, _-_, _≤_, _<_}
 use mathlib.Core.Path.{_≡_, refl, ap, _∙_}
 use mathlib.Core.List.{List, [], _∷_, _++_}
 use native.Mathlib.Numerals.{add-one}
 use native.Mathlib.Omega.{arith}
-use lib.ListN.{length, getD, drop, length-append, length-drop}
+use lib.ListN.{length, getD, drop, length-drop}
 use lib.Seq.{drop-cons, take-suc, getD-drop, length-take-le}
-use Rattle.meaning.specs.Places.{part, Wrote}
-use Rattle.meaning.specs.declared.Offset.{Offset}
-use Rattle.meaning.proofs.Stores.{sets-append}
+use Rattle.meaning.specs.Places.{part}
 
 module _ (s : List ℕ) (from k : ℕ) where
   pub part-length : from + k ≤ length s → length (part s from k) ≡ k
@@ -32,9 +30,3 @@ each (suc k) s from = getD s from 0 ∷ each k s (suc from)
 pub part-each : (k : ℕ) (s : List ℕ) (from : ℕ) → from + k ≤ length s → part s from k ≡ each k s from
 part-each zero s from h = refl
 part-each (suc k) s from h = rw (drop-cons s from 0 (omega arith)) (ap (λ (l : List ℕ). getD s from 0 ∷ l) (part-each k s (suc from) (omega arith)))
-
--- some bytes are written, and others after them
-pub wrote-after : {xs ys : List ℕ} {at : ℕ} {mid end : Offset} {out out₁ out₂ : List ℕ} → Wrote xs at out out₁ mid → Wrote ys (mid .byte) out₁ out₂ end
-    → Wrote (xs ++ ys) at out out₂ end
-wrote-after {xs} {ys} {at} {out = out} p q =
-    record { ends = omega (arith, p .ends, q .ends, length-append xs ys); here = q .here ∙ rw (p .here, p .ends) (sets-append xs ys out at) }

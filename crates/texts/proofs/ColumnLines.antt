@@ -22,8 +22,7 @@ use Rattle.sheet.proofs.Entered.{planPart}
 use Rattle.sheet.proofs.Passing.{numbers-many, reads-all}
 use Rattle.texts.specs.Listing.{words, named, sized, Listable}
 use Rattle.texts.proofs.Lines.{line-open, line-many}
-use Rattle.leaves.proofs.Parts.{wrote-after}
-use Rattle.texts.proofs.Putting.{wrote-as}
+use Rattle.leaves.proofs.Putting.{wrote-after, wrote-as}
 
 -- ---- its line
 module _ {sheet : List ℕ} {k : ℕ} {e : Entry} where

@@ -8,8 +8,7 @@ use Rattle.meaning.specs.Texts.{line, lineFeed, space}
 use Rattle.meaning.specs.declared.Offset.{Offset}
 use Rattle.leaves.proofs.Joined.{joined-append}
 use Rattle.texts.specs.Listing.{words}
-use Rattle.leaves.proofs.Parts.{wrote-after}
-use Rattle.texts.proofs.Putting.{wrote-as}
+use Rattle.leaves.proofs.Putting.{wrote-after, wrote-as}
 
 abbrev tail : List ℕ
 tail = lineFeed ∷ []

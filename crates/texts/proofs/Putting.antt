@@ -1,22 +1,18 @@
--- Bytes put after bytes, and what is still to be put by a loop. Assumes nothing.
+-- Bytes put, and how many they are at most: by one function, by the turns of a loop, from the start of an output. Assumes nothing.
 use Prim.Native.Nat.{ℕ, _+_, _*_, _≤_, _<_}
-use mathlib.Core.Path.{_≡_, refl, sym, ap, _∙_}
+use mathlib.Core.Path.{_≡_, ap, _∙_}
 use mathlib.Core.List.{List, [], _∷_, _++_}
-use native.Mathlib.Nat.{add-zero, mul-suc}
+use native.Mathlib.Nat.{mul-suc}
 use native.Mathlib.Numerals.{add-one}
 use native.Mathlib.Omega.{arith}
-use lib.ListN.{length, getD, drop, length-append}
-use lib.Seq.{sets, length-sets, drop-cons}
+use lib.ListN.{length, getD, drop}
+use lib.Seq.{sets, drop-cons}
 use Rattle.meaning.specs.Places.{Wrote}
 use Rattle.meaning.specs.declared.Offset.{Offset}
-use Rattle.meaning.proofs.Stores.{sets-append}
+use Rattle.leaves.proofs.Putting.{Left, left-start, left-turn, left-end}
 use Rattle.texts.specs.Written.{Puts, Written}
 
--- the same bytes in other words
-pub wrote-as : {xs ys : List ℕ} {at : ℕ} {out out′ : List ℕ} {end : Offset} → xs ≡ ys → Wrote xs at out out′ end → Wrote ys at out out′ end
-wrote-as e p = rw e at p
-
--- and how many they are
+-- how many they are
 pub few-put : {xs : List ℕ} {most at : ℕ} {out out′ : List ℕ} {end : Offset} → Wrote xs at out out′ end → length xs ≤ most → Puts xs most at out out′ end
 few-put p few = record { wrote = p; short = omega (arith, p .ends) }
 
@@ -27,34 +23,6 @@ widened p h = record { wrote = p .wrote; short = omega (arith, p .short) }
 pub written : {xs ys : List ℕ} {most : ℕ} {out out′ : List ℕ} {end : Offset} → xs ≡ ys → Puts xs most 0 out out′ end → Written ys most out out′ (end .byte)
 written {out = out} e p =
     record { ends = omega (arith, p .wrote .ends, ap length e); here = p .wrote .here ∙ ap (sets out 0) e; short = omega (arith, p .short) }
-
--- ---- a loop: putting the rest makes the whole
-pub record Left (whole : List ℕ) (at : ℕ) (out₀ rest out : List ℕ) (to : ℕ) : Type 0 where
-  pub here : sets out to rest ≡ sets out₀ at whole
-  pub ends : to + length rest ≡ at + length whole
-
-pub left-start : (whole : List ℕ) (at : ℕ) (out₀ : List ℕ) → Left whole at out₀ whole out₀ at
-left-start whole at out₀ = record { here = refl; ends = refl }
-
-module _ {whole : List ℕ} {at : ℕ} {out₀ rest out : List ℕ} {to : ℕ} (left : Left whole at out₀ rest out to) where
-  pub left-long : length out ≡ length out₀
-  left-long = sym (length-sets out to rest) ∙ ap length (left .here) ∙ length-sets out₀ at whole
-
-  -- no offset is past the end of the whole
-  pub left-most : to ≤ at + length whole
-  left-most = omega (arith, left .ends)
-
-  pub left-turn : {front rest′ out′ : List ℕ} {to′ : Offset} → rest ≡ front ++ rest′ → Wrote front to out out′ to′
-      → Left whole at out₀ rest′ out′ (to′ .byte)
-  left-turn {front} {rest′} e p =
-      record {
-        here = rw (p .here, p .ends) (sets-append front rest′ out to ∙ ap (sets out to) (sym e)) ∙ left .here;
-        ends = omega (arith, p .ends, left .ends, ap length e, length-append front rest′);
-      }
-
-  pub left-end : rest ≡ [] → Wrote whole at out₀ out (record { byte = to })
-  left-end e =
-      record { ends = sym (add-zero to) ∙ ap (λ (l : List ℕ). to + length l) (sym e) ∙ left .ends; here = ap (sets out to) (sym e) ∙ left .here }
 
 -- ---- n turns of a loop, each of which puts at most so many bytes
 pub record Turning (n each : ℕ) (whole : List ℕ) (at : ℕ) (out₀ rest out : List ℕ) (to i : ℕ) : Type 0 where

@@ -21,8 +21,8 @@ use Rattle.sheet.proofs.Checks.{check-passed}
 use Rattle.texts.specs.Listing.{Passing, Listable}
 use Rattle.texts.specs.Written.{Puts}
 use Rattle.texts.proofs.Listings.{counting-next, counting-end}
-use Rattle.leaves.proofs.Parts.{wrote-after}
-use Rattle.texts.proofs.Putting.{wrote-as, widened, Turning, turns-next, turns-end}
+use Rattle.leaves.proofs.Putting.{wrote-after, wrote-as}
+use Rattle.texts.proofs.Putting.{widened, Turning, turns-next, turns-end}
 
 pub passing-sheet : {sheet : List ℕ} {w l : ℕ} → Passing sheet w l → IsSheet sheet
 passing-sheet {sheet} p = sound-sheet sheet (check-passed sheet allWork (p .passes) .ready .sounds)

@@ -13,7 +13,7 @@ use Rattle.meaning.specs.Places.{part, Source, Wrote}
 use Rattle.meaning.specs.VByte.{sevens, vbyte}
 use Rattle.meaning.specs.declared.Offset.{Offset}
 use Rattle.leaves.proofs.Joined.{joined-next}
-use Rattle.leaves.proofs.Parts.{wrote-after}
+use Rattle.leaves.proofs.Putting.{wrote-after}
 use Rattle.vbyte.proofs.Laws.{most}
 
 -- ---- one number

@@ -2,7 +2,7 @@
 use Prim.Native.Nat.{_+_, _-_}
 use native.Mathlib.Omega.{arith}
 use Rattle.groups.specs.Parts.{groupsOf}
-use Rattle.leaves.proofs.Parts.{wrote-after}
+use Rattle.leaves.proofs.Putting.{wrote-after}
 use Rattle.groups.proofs.Puts.{PutSo, put-start, put-turn, put-end, put-long, put-one, groups-none, groups-turn, groups-room}
 use borrow.Author.Needs.{needs}
 use Rattle.groups.proofs.write_groups.Statement.{statement}

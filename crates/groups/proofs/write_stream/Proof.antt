@@ -1,7 +1,7 @@
 -- All control bytes, and then all data. Assumes nothing.
 use native.Mathlib.Omega.{arith}
 use Rattle.meaning.specs.Groups.{writeStream}
-use Rattle.leaves.proofs.Parts.{wrote-after}
+use Rattle.leaves.proofs.Putting.{wrote-after}
 use Rattle.groups.proofs.Puts.{controls-bound}
 use borrow.Author.Needs.{needs}
 use Rattle.groups.proofs.write_stream.Statement.{statement}

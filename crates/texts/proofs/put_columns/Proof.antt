@@ -1,7 +1,8 @@
 -- The columns that are still to be put, put from here on, make the whole; a turn puts one. Assumes only the laws of the codes.
 use Prim.Native.Nat.{_-_}
 use mathlib.Core.Path.{refl}
-use Rattle.texts.proofs.Putting.{left-long, turns-start}
+use Rattle.leaves.proofs.Putting.{left-long}
+use Rattle.texts.proofs.Putting.{turns-start}
 use Rattle.texts.proofs.Sheets.{passing-sheet, Listing, listing-room, listing-column, listing-turn, listing-end}
 use borrow.Author.Needs.{needs}
 use Rattle.texts.proofs.put_columns.Statement.{statement}

@@ -2,7 +2,7 @@
 use native.Mathlib.Omega.{arith}
 use borrow.Author.Needs.{needs}
 use Rattle.meaning.specs.Texts.{text, boardLines}
-use Rattle.leaves.proofs.Parts.{wrote-after}
+use Rattle.leaves.proofs.Putting.{wrote-after}
 use Rattle.texts.proofs.put_tally.Statement.{statement}
 use Rattle.texts.proofs.put_tally.Tie as tie
 

@@ -3,7 +3,7 @@ use native.Mathlib.Omega.{arith}
 use Rattle.meaning.specs.Texts.{text}
 use Rattle.texts.specs.Listing.{named}
 use Rattle.texts.proofs.Lines.{word-last, word-next}
-use Rattle.leaves.proofs.Parts.{wrote-after}
+use Rattle.leaves.proofs.Putting.{wrote-after}
 use borrow.Author.Needs.{needs}
 use Rattle.texts.proofs.columns.put_named.Statement.{statement}
 use Rattle.texts.proofs.columns.put_named.Tie as tie

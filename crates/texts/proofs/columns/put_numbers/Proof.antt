@@ -4,7 +4,8 @@ use native.Mathlib.Omega.{arith}
 use lib.ListN.{length, drop}
 use Rattle.meaning.specs.Texts.{counting, numberLine}
 use Rattle.texts.proofs.Listings.{counting-next, counting-end}
-use Rattle.texts.proofs.Putting.{left-long, Turning, turns-start, turns-next, turns-end}
+use Rattle.leaves.proofs.Putting.{left-long}
+use Rattle.texts.proofs.Putting.{Turning, turns-start, turns-next, turns-end}
 use borrow.Author.Needs.{needs}
 use Rattle.texts.proofs.columns.put_numbers.Statement.{statement}
 use Rattle.texts.proofs.columns.put_numbers.Tie as tie

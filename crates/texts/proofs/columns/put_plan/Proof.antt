@@ -9,7 +9,7 @@ use Rattle.meaning.specs.Plan.{planSize, planOf}
 use Rattle.meaning.specs.Texts.{digits, unfilled}
 use Rattle.texts.specs.Listing.{words}
 use Rattle.texts.proofs.Plans.{plan-within}
-use Rattle.texts.proofs.Putting.{wrote-as}
+use Rattle.leaves.proofs.Putting.{wrote-as}
 use borrow.Author.Needs.{needs}
 use Rattle.texts.proofs.columns.put_plan.Statement.{statement}
 use Rattle.texts.proofs.columns.put_plan.Tie as tie

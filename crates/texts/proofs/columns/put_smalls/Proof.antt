@@ -6,7 +6,8 @@ use lib.ListN.{length, drop}
 use Rattle.meaning.specs.Texts.{digits}
 use Rattle.texts.specs.Listing.{words}
 use Rattle.texts.proofs.Listings.{smalls-next, smalls-end}
-use Rattle.texts.proofs.Putting.{left-long, Turning, turns-start, turns-next, turns-end}
+use Rattle.leaves.proofs.Putting.{left-long}
+use Rattle.texts.proofs.Putting.{Turning, turns-start, turns-next, turns-end}
 use borrow.Author.Needs.{needs}
 use Rattle.texts.proofs.columns.put_smalls.Statement.{statement}
 use Rattle.texts.proofs.columns.put_smalls.Tie as tie

@@ -7,8 +7,8 @@ use borrow.Author.Needs.{needs}
 use borrow.Fn.Kinds.{In, Out}
 use borrow.Fn.PlainCycle.{Measures, is, falls, and}
 use Rattle.texts.proofs.Digits.{digits-one, digits-more, digits-few}
-use Rattle.leaves.proofs.Parts.{wrote-after}
-use Rattle.texts.proofs.Putting.{wrote-as, few-put}
+use Rattle.leaves.proofs.Putting.{wrote-after, wrote-as}
+use Rattle.texts.proofs.Putting.{few-put}
 use Rattle.texts.proofs.pieces.put_digits.Reads as put-digits
 use Rattle.texts.proofs.pieces.put_digits.Kinds as put-digits-kinds
 use Rattle.texts.proofs.pieces.+put_digits.Lts-put_digits as lts

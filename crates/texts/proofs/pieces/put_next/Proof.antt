@@ -1,6 +1,6 @@
 -- A space, then the word. Assumes nothing.
 use borrow.Author.Needs.{needs}
-use Rattle.leaves.proofs.Parts.{wrote-after}
+use Rattle.leaves.proofs.Putting.{wrote-after}
 use Rattle.texts.proofs.pieces.put_next.Statement.{statement}
 use Rattle.texts.proofs.pieces.put_next.Tie as tie
 

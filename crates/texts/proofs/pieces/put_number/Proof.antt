@@ -1,7 +1,7 @@
 -- A space, then the digits. Assumes nothing.
 use native.Mathlib.Omega.{arith}
 use borrow.Author.Needs.{needs}
-use Rattle.leaves.proofs.Parts.{wrote-after}
+use Rattle.leaves.proofs.Putting.{wrote-after}
 use Rattle.texts.proofs.pieces.put_number.Statement.{statement}
 use Rattle.texts.proofs.pieces.put_number.Tie as tie
 

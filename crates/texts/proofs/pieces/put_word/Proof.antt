@@ -2,7 +2,8 @@
 use Prim.Native.Nat.{_-_}
 use native.Mathlib.Omega.{arith}
 use lib.ListN.{length, drop, drop-of-length-le}
-use Rattle.texts.proofs.Putting.{Left, left-start, left-long, left-most, left-turn, left-end, rest-next}
+use Rattle.leaves.proofs.Putting.{Left, left-start, left-long, left-most, left-turn, left-end}
+use Rattle.texts.proofs.Putting.{rest-next}
 use borrow.Author.Needs.{needs}
 use Rattle.texts.proofs.pieces.put_word.Statement.{statement}
 use Rattle.texts.proofs.pieces.put_word.Tie as tie
