@@ -19,14 +19,13 @@ slice-aggregate-put-smalls c =
     let ended : tie.After-plan-end = search in
     let start : tie.Start = search in
     let (fits, long) = plan-within (start .args .plan .now) (start .pre .0) in
-    sym (length-take-le _ _ (omega (arith, fits, ended .plan-end .ensures)))
+    sym (length-take-le _ _ (omega (arith, fits, long, ended .plan-end .ensures)))
 
 put-smalls-requires : tie.Need-put-smalls-requires
 put-smalls-requires c κs =
-    let ended : tie.After-plan-end = search in
     let start : tie.Start = search in
     let (fits, long) = plan-within (start .args .plan .now) (start .pre .0) in
-    (omega (arith, long, length-take (ended .plan-end .result .byte) (start .args .plan .now)), start .pre .1)
+    (rw length-take (omega (arith, long)), start .pre .1)
 
 returns : tie.Need-returns
 unfolding unfilled planOf
