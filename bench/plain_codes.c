@@ -1,4 +1,4 @@
-// Plain C, the six codes: reading one unit by its own rules, and a list of units.
+// Plain C, the seven codes: reading one unit by its own rules, and a list of units.
 
 #include "plain_inside.h"
 
@@ -27,19 +27,24 @@ INLINE const uint8_t *unit_vbyte(const uint8_t *p, const uint8_t *end, uint32_t 
     return p;
 }
 
+// So many numbers of a group or a batch, where 4 bytes for each of them are there, and where their data ends.
+INLINE const uint8_t *unit_whole(unsigned control, const uint8_t *p, unsigned many, uint32_t *x)
+{
+    bool longer = false;
+    for (unsigned i = 0; i < many; i++, control >>= 2) {
+        unsigned code = control & 3;
+        x[i] = load32(p) & most[code];
+        longer |= x[i] < least[code];
+        p += code + 1;
+    }
+    return longer ? NULL : p;
+}
+
 // The numbers of one group, `many` of them in use, and where its data ends.
 INLINE const uint8_t *unit_group(unsigned control, const uint8_t *p, const uint8_t *end, unsigned many, uint32_t *x)
 {
-    if (many == 4 && end - p >= 16) {
-        bool longer = false;
-        for (unsigned i = 0; i < 4; i++, control >>= 2) {
-            unsigned code = control & 3;
-            x[i] = load32(p) & most[code];
-            longer |= x[i] < least[code];
-            p += code + 1;
-        }
-        return longer ? NULL : p;
-    }
+    if (many == 4 && end - p >= 16)
+        return unit_whole(control, p, 4, x);
     for (unsigned i = 0; i < many; i++, control >>= 2) {
         unsigned code = control & 3;
         if (end - p <= (ptrdiff_t)code)
@@ -52,6 +57,24 @@ INLINE const uint8_t *unit_group(unsigned control, const uint8_t *p, const uint8
         x[i] = v;
     }
     return control == 0 ? p : NULL;             // unused fields are 0
+}
+
+// The numbers of one four-wise batch, `many` of them in use, and where it ends.  A mask tells the bytes left out,
+// so its bits turned over are a group's control byte.
+INLINE const uint8_t *unit_batch(const uint8_t *mask, const uint8_t *end, unsigned many, uint32_t *x)
+{
+    if (end - mask < (many + 3) / 4)
+        return NULL;
+    const uint8_t *p = mask + (many + 3) / 4;
+    if (many == BATCH && end - p >= 4 * BATCH)
+        return unit_whole(~load32(mask), p, BATCH, x);
+    for (; many >= 4; many -= 4, x += 4)
+        if ((p = unit_group(~*mask++ & 255, p, end, 4, x)) == NULL)
+            return NULL;
+    if (many == 0)
+        return p;
+    unsigned used = (1 << 2 * many) - 1;            // unused fields are 0 in the mask and in a control byte
+    return *mask > used ? NULL : unit_group(*mask ^ used, p, end, many, x);
 }
 
 // The numbers of one G8IU block; 0 for a fault.
@@ -154,6 +177,11 @@ INLINE unsigned take(unsigned code, struct walk *w, uint32_t *x)
         if ((w->data = unit_group(*w->at++, w->data, w->end, many, x)) == NULL)
             return 0;
         break;
+    case FOURWISE:
+        many = w->left < BATCH ? w->left : BATCH;
+        if ((w->at = unit_batch(w->at, w->end, many, x)) == NULL)
+            return 0;
+        break;
     case G8IU:
         many = unit_block(w, x);
         break;
@@ -197,7 +225,7 @@ INLINE bool read_units(unsigned code, const uint8_t *body, size_t length, uint32
 INLINE bool find_unit(unsigned code, const uint8_t *body, size_t length, uint32_t n, uint32_t place, uint64_t *x)
 {
     struct walk w;
-    uint32_t unit[8];
+    uint32_t unit[MOST_UNIT];
     if (!start(code, &w, body, length, n))
         return false;
     for (;;) {
@@ -215,7 +243,7 @@ INLINE bool find_unit(unsigned code, const uint8_t *body, size_t length, uint32_
 INLINE bool sum_units(unsigned code, const uint8_t *body, size_t length, uint32_t n, uint32_t place, uint64_t *x)
 {
     struct walk w;
-    uint32_t unit[8];
+    uint32_t unit[MOST_UNIT];
     uint64_t sum = 0;
     if (!start(code, &w, body, length, n))
         return false;
@@ -240,6 +268,7 @@ INLINE bool sum_units(unsigned code, const uint8_t *body, size_t length, uint32_
     case GROUPS: return f(GROUPS, __VA_ARGS__);     \
     case G8IU: return f(G8IU, __VA_ARGS__);         \
     case STREAM: return f(STREAM, __VA_ARGS__);     \
+    case FOURWISE: return f(FOURWISE, __VA_ARGS__); \
     case GAMMA: return f(GAMMA, __VA_ARGS__);       \
     default: return f(DELTA, __VA_ARGS__);          \
     }

@@ -5,7 +5,8 @@
 #include <stdbool.h>
 #include <string.h>
 
-enum { VBYTE = 1, GROUPS, G8IU, STREAM, GAMMA, DELTA, REFERENCE = 16, DIFFERENCES, RUNS };
+enum { VBYTE = 1, GROUPS, G8IU, STREAM, GAMMA, DELTA, FOURWISE, REFERENCE = 16, DIFFERENCES, RUNS };
+enum { BATCH = 16, MOST_UNIT = BATCH };             // numbers of a four-wise batch, and of the largest unit
 enum { PLAN = 15, ENTRY = 24, DEPTH = 4, MOST_COLUMNS = 16, MOST_COUNT = 1024, MOST_SHEET = 65536 };
 #define INLINE static inline __attribute__((always_inline))
 

@@ -8,7 +8,7 @@ static const uint8_t *plan_end(const uint8_t *p, const uint8_t *end, unsigned de
     if (p == end || depth == 0)
         return NULL;
     unsigned what = *p++;
-    if (what >= VBYTE && what <= DELTA)
+    if (what >= VBYTE && what <= FOURWISE)
         return p;
     if (what < REFERENCE || what > RUNS)
         return NULL;
@@ -105,7 +105,7 @@ bool read_plan(const uint8_t *plan, const uint8_t *body, size_t length, uint32_t
 struct list {
     const uint8_t *plan;
     struct walk walk;                   // a code: its units, and the numbers of the one taken last
-    uint32_t unit[8];
+    uint32_t unit[MOST_UNIT];
     unsigned many, taken;
     uint32_t low;                       // reference
     uint64_t sum, value;                // differences; runs: the value of the run taken last,
@@ -192,7 +192,7 @@ bool lookup_plan(const uint8_t *plan, const uint8_t *body, size_t length, uint32
         *x += load32(body);
         return true;
     case DIFFERENCES:
-        if (plan[1] <= DELTA)
+        if (plan[1] <= FOURWISE)
             return sum_code(plan[1], body, length, n, place, x);
         if (open_list(lists, lists + 1, plan, body, length, n) == NULL)
             return false;

@@ -27,6 +27,7 @@ static size_t size_code(unsigned code, const uint32_t *x, uint32_t n)
         return size;
     case GROUPS:
     case STREAM:
+    case FOURWISE:
         for (uint32_t i = 0; i < n; i++)
             size += bytes_of(x[i]);
         return size + (n + 3) / 4;
@@ -63,8 +64,9 @@ static uint8_t *put_vbyte(uint8_t *out, const uint32_t *x, uint32_t n)
     return out;
 }
 
-// Groups of four: control bytes among the data, or all of them first.
-INLINE uint8_t *put_groups(uint8_t *out, const uint32_t *x, uint32_t n, bool first)
+// Groups of four: control bytes among the data, or all of them first; a field tells the length or, as a mask does,
+// the bytes left out.
+INLINE uint8_t *put_groups(uint8_t *out, const uint32_t *x, uint32_t n, bool first, bool mask)
 {
     uint8_t *control = out, *data = first ? out + (n + 3) / 4 : out;
     for (uint32_t i = 0; i < n; i += 4) {
@@ -73,12 +75,19 @@ INLINE uint8_t *put_groups(uint8_t *out, const uint32_t *x, uint32_t n, bool fir
             control = data++;
         for (uint32_t k = 0; k < many; k++) {
             unsigned length = bytes_of(x[i + k]);
-            fields |= (length - 1) << 2 * k;
+            fields |= (mask ? 4 - length : length - 1) << 2 * k;
             data = put_bytes(data, x[i + k], length);
         }
         *control++ = fields;
     }
     return data;
+}
+
+static uint8_t *put_fourwise(uint8_t *out, const uint32_t *x, uint32_t n)
+{
+    for (; n > BATCH; x += BATCH, n -= BATCH)
+        out = put_groups(out, x, BATCH, true, true);
+    return put_groups(out, x, n, true, true);
 }
 
 static uint8_t *put_g8iu(uint8_t *out, const uint32_t *x, uint32_t n)
@@ -129,8 +138,9 @@ static uint8_t *put_code(unsigned code, uint8_t *out, const uint32_t *x, uint32_
 {
     switch (code) {
     case VBYTE: return put_vbyte(out, x, n);
-    case GROUPS: return put_groups(out, x, n, false);
-    case STREAM: return put_groups(out, x, n, true);
+    case GROUPS: return put_groups(out, x, n, false, false);
+    case STREAM: return put_groups(out, x, n, true, false);
+    case FOURWISE: return put_fourwise(out, x, n);
     case G8IU: return put_g8iu(out, x, n);
     default: return put_elias(out, x, n, code == DELTA);
     }

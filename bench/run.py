@@ -18,11 +18,11 @@ import machine
 
 NUMBERS, REPEATS, PLACES = 1024, 4, (0, 255, 511, 1023)
 TIMED = 200
-PLANS = ("1", "2", "3", "4", "5", "6", "17 1", "17 4", "18 1 1", "16 4")
+PLANS = ("1", "2", "3", "4", "5", "6", "7", "17 1", "17 4", "18 1 1", "16 4")
 WIDTHS = ("small", "mixed", "wide")
 NAMES = {"1": "VByte", "2": "group of four", "3": "G8IU", "4": "Stream VByte", "5": "gamma", "6": "delta",
-         "17 1": "differences, VByte", "17 4": "differences, Stream VByte", "18 1 1": "runs, VByte twice",
-         "16 4": "reference, Stream VByte"}
+         "7": "four-wise", "17 1": "differences, VByte", "17 4": "differences, Stream VByte",
+         "18 1 1": "runs, VByte twice", "16 4": "reference, Stream VByte"}
 ENGINES = ("library", "plain")
 
 

@@ -21,6 +21,9 @@
    11  over 16 orders, kind above 1, count above 1,024, counts not summing to the joined slice
    12  board rules broken
 
+   A plan's bytes: codes 1 VByte, 2 group of four, 3 G8IU, 4 Stream VByte, 5 gamma, 6 delta and 7 four-wise
+   null suppression; stages 16 reference and 17 differences, each before one plan, and 18 runs before two.
+
    On a sheet the order is 1; 2; each plan in turn, 3 before 4; 5; 6; 8; 7; 9; 12.  On writing it is 11; each
    plan in turn, 3 before 4; each list in turn 10; 8; 7. */
 

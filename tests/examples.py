@@ -1,5 +1,6 @@
 """Runs every marked example of the document, its listing example, each of its "Errors seen in
-earlier code" and the decisions 1 to 13 against the reading.  Exit status 1 if any differ."""
+earlier code", the decisions 1 to 13 and the examples of request P1 (code 7) against the reading.
+Exit status 1 if any differ."""
 
 import sys
 sys.dont_write_bytecode = True
@@ -177,6 +178,75 @@ for name, text, n in (("no zero bit", "FF 00 00 00 00 00 00 00 00", 1),
     case("G8IU " + name + " read", of(r.read_code, 3, hexa(text), n), R(9))
     case("G8IU " + name + " looked up", of(r.lookup_code, 3, hexa(text), n, 0), R(9))
 
+# ------------------------------------------------------------ four-wise batches (request P1)
+
+code_example("four-wise eight of 001", 7, EIGHT, "3E BF 00 04 0C 0A 00 00 00 40 01 02 03 00 04")
+code_example("four-wise 0", 7, [0], "03 00")
+code_example("four-wise 0 to 16", 7, list(range(17)),
+             "FF FF FF FF 00 01 02 03 04 05 06 07 08 09 0A 0B 0C 0D 0E 0F" "03 10")
+code_example("four-wise 4294967295", 7, [MAX], "00 FF FF FF FF")
+code_example("four-wise 1 to 4 bytes", 7, [255, 65535, 2**24 - 1, 2**24],
+             "1B FF FF FF FF FF FF 00 00 00 01")
+code_example("four-wise five, 004's z of 2, 3, 1, 3 lowest first", 7, [256, 0, 2**16, 1, 2],
+             "DE 03 00 01 00 00 00 01 01 02")
+
+FAULTY = (                                          # the only batch at fault, however it is asked
+    ("no mask", "", 1),
+    ("cut in masks", "FF", 5),
+    ("cut in masks, four due", "FF FF FF", 13),
+    ("masks alone", "FF 03", 5),
+    ("cut in data", "FF 03 01 02 03 04", 5),
+    ("cut within a number", "02 00", 1),
+    ("second field not 0", "07 05", 1),
+    ("third field not 0", "13 05", 1),
+    ("fourth field not 0", "43 05", 1),
+    ("last field not 0", "FF C3 01 02 03 04 05", 5),
+    ("second field not 0 and its data", "0F 05 06", 1),
+    ("0 in two bytes", "02 00 00", 1),
+    ("5 in two bytes", "02 05 00", 1),
+    ("256 in three bytes", "01 00 01 00", 1),
+    ("65536 in four bytes", "00 00 00 01 00", 1),
+    ("the fourth number a byte too long", "BF 01 02 03 04 00", 4),
+    ("length minus one for zero bytes", "C1 00 04 0C 0A 00 00 00 40", 4),
+    ("004's mask, its first field highest", "B7 00 01 00 00 00 01 01", 4))
+for name, text, n in FAULTY:
+    case("four-wise " + name + " read", of(r.read_code, 7, hexa(text), n), R(9))
+    case("four-wise " + name + " looked up",
+         [of(r.lookup_code, 7, hexa(text), n, i) for i in range(n)], n * [R(9)])
+case("four-wise byte left over read", of(r.read_code, 7, hexa("03 05 00"), 1), R(9))
+case("four-wise byte left over looked up", of(r.lookup_code, 7, hexa("03 05 00"), 1, 0), 5)
+case("four-wise a whole batch left over read", of(r.read_code, 7, hexa("03 05 03 06"), 1), R(9))
+
+BATCH = "FF FF FF FF 00 01 02 03 04 05 06 07 08 09 0A 0B 0C 0D 0E 0F "      # 0 to 15
+for name, text in (("nothing", ""), ("cut in data", "03"), ("unused field", "13 10"),
+                   ("a byte too many", "02 10 00")):
+    body = hexa(BATCH + text)
+    case("four-wise second batch %s: read" % name, of(r.read_code, 7, body, 17), R(9))
+    case("four-wise second batch %s: looked up" % name,
+         [of(r.lookup_code, 7, body, 17, i) for i in range(17)], list(range(16)) + [R(9)])
+# The sixteenth number of the first batch at fault: a byte too long, then cut off.
+for name, text in (("a byte too many", BATCH.replace("FF 00", "BF 00") + "00 03 10"),
+                   ("cut", BATCH[:-3])):
+    case("four-wise later in the batch, %s: looked up" % name,
+         [of(r.lookup_code, 7, hexa(text), 17, i) for i in range(17)], 17 * [R(9)])
+TWICE = "FF FF FF FF " + 16 * "07 "
+case("four-wise masks of both batches first read",
+     of(r.read_code, 7, hexa("FF FF FF FF FF FF FF FF" + 32 * "07"), 32), R(9))
+code_example("four-wise two full batches", 7, 32 * [7], TWICE + TWICE)
+code_example("four-wise two full batches and three", 7, 35 * [7], TWICE + TWICE + "3F 07 07 07")
+plan_example("plan 16 7 on 1000, 1002", tree(16, 7), [1000, 1002], "E8 03 00 00 0F 00 02")
+plan_example("plan 17 7 on 5, 5, 133", tree(17, 7), [5, 5, 133], "3F 05 00 80")
+plan_example("plan 18 7 7 on 7, 7, 7, 9", tree(18, 7, 7), [7, 7, 7, 9],
+             "02 00 00 00 03 00 00 00 0F 07 09 0F 03 01")
+SEVEN = sheet((0, plan(7), 17, hexa(BATCH + "03 10")))
+case("four-wise sheet written", of(r.write, [(0, plan(7), 17)], list(range(17)), 119, 48), SEVEN)
+case("four-wise sheet read", of(r.read, SEVEN, 0, 119, 17), list(range(17)))
+case("four-wise sheet with a byte changed: check", named(r.check, SEVEN[:-1] + b"\0", 136), None)
+case("four-wise sheet with a mask changed: check",
+     named(r.check, SEVEN[:-2] + hexa("07 10"), 136), ("refused", 9, 0))
+case("four-wise sheet with a mask changed: reader", r.calls(SEVEN[:-2] + hexa("07 10"), 0, 18),
+     [("number", i) for i in range(16)] + 2 * [R(9)])
+
 # ------------------------------------------------------------ decisions 1 to 13
 
 case("1 zeros judged", r.judge(0, NONE), 3)
@@ -353,7 +423,10 @@ case("refusal 3: after the end", r.judge(0, plan(1, 0, 1)), 3)
 case("refusal 4: lengths are any", r.judge(1, plan(18, 1, 17, 1)), 4)
 case("refusal 4: values keep the kind", r.judge(1, plan(18, 16, 17, 1, 16, 1)), 0)
 case("refusal 4: 17 hands on any", r.judge(1, plan(17, 17, 1)), 4)
-case("the fullest plan", r.judge(0, bytes([18, 18, 18, 1, 2, 18, 3, 4, 18, 18, 5, 6, 18, 1, 2])), 0)
+case("the fullest plan", r.judge(0, bytes([18, 18, 18, 1, 2, 18, 3, 4, 18, 18, 5, 6, 18, 7, 2])), 0)
+case("every plan of one number", [x for x in range(256) if r.judge(0, plan(x)) == 0], list(r.CODES))
+case("the codes", r.CODES, (1, 2, 3, 4, 5, 6, 7))
+case("refusal 3: 8 under a stage", r.judge(0, plan(16, 8)), 3)
 case("refusal 5 before 6", of(r.lookup, LISTED, 1, 99), R(5))
 case("refusal 6", of(r.lookup, LISTED, 0, 3), R(6))
 case("refusal 8: check", named(r.check, LISTED, 23), ("refused", 8, 0))
@@ -365,7 +438,9 @@ case("refusal 11: count 1,025", of(r.write, [(0, NONE, 1025)], 1025 * [0], 9999,
 case("refusal 11: counts and slice", of(r.write, [(0, NONE, 1)], [1, 2], 99, 99), R(11))
 case("worst: 3 before 11", of(r.worst, plan(9), 1025), R(3))
 case("worst: 11", of(r.worst, plan(1), 1025), R(11))
-case("worst of 5 by each code", [r.worst(plan(c), 5) for c in r.CODES], [25, 22, 27, 22, 41, 27])
+case("worst of 5 by each code", [r.worst(plan(c), 5) for c in r.CODES], [25, 22, 27, 22, 41, 27, 22])
+case("worst of 17 by code 7", r.worst(plan(7), 17), 4 * 17 + 5)
+case("worst of 17 by code 7, reached", len(r.write_code(7, 17 * [MAX])), 4 * 17 + 5)
 case("worst of 16, 17, 18", [r.worst(plan(*p), 5) for p in ((16, 1), (17, 1), (18, 16, 1, 2))],
      [29, 25, 8 + 29 + 22])
 case("worst of 0", [r.worst(plan(*p), 0) for p in ((1,), (5,), (16, 3), (18, 16, 1, 1))],

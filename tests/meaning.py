@@ -71,7 +71,7 @@ def damaged(data):
 def plan(stages, kind):
     way = RANDOM.random()
     if stages == 0 or way < 0.4:
-        return [RANDOM.randint(1, 6)]
+        return [RANDOM.choice(R.CODES)]
     if way < 0.6:
         return [16] + plan(stages - 1, kind)
     if way < 0.8 and (kind == 1 or RANDOM.random() < 0.1):
@@ -84,7 +84,9 @@ def fill(bytes_of_plan):
 
 
 def case_code():
-    code, n = RANDOM.randint(1, 6), RANDOM.randint(0, 7)
+    code, n = RANDOM.choice(R.CODES), RANDOM.randint(0, 7)
+    if code == R.FOURWISE and RANDOM.random() < 0.3:        # a second batch begins after 16
+        n = RANDOM.randint(15, 18)
     body = R.write_code(code, xs := numbers(0, n))
     says("write (code %d) %s" % (code, listed(xs)), listed(body))
     body, n = damaged(body), max(0, n + RANDOM.choice([0, 0, 0, -1, 1]))
@@ -127,7 +129,7 @@ def orders():
         n = 2 if column < 2 and RANDOM.random() < 0.5 else RANDOM.randint(0, 3)
         bytes_of_plan, xs = bytes(15) if RANDOM.random() < 0.3 else fill(plan(2, kind)), numbers(kind, n)
         if column == 1 and RANDOM.random() < 0.7:
-            kind, bytes_of_plan = 0, fill([RANDOM.randint(1, 6)])
+            kind, bytes_of_plan = 0, fill([RANDOM.choice(R.CODES)])
             xs = [RANDOM.choice([0, 1, 124, 255, 256, 257]) for _ in xs]
         if RANDOM.random() < 0.05:
             bytes_of_plan = fill(damaged(bytes_of_plan))
@@ -186,10 +188,10 @@ def case_programs():
     whole = [b"", b"\1", b"\1\0", b"\2\0", b"\1\x11", example, example[:20], example + b"\0", board]
     # kind 2; an unknown number in a plan, one after its end; differences of kind 0; a last byte of 0; the same in column 1
     whole += [changed(example, at, value) for at, value in ((2, 2), (4, 9), (6, 1), (2, 0), (29, 0))]
-    whole += [changed(board, at, value) for at, value in ((26, 2), (27, 7), (len(board) - 1, 0))] + [changed(sheet(jobs, jobs), 26, 0)]
+    whole += [changed(board, at, value) for at, value in ((26, 2), (27, 8), (len(board) - 1, 0))] + [changed(sheet(jobs, jobs), 26, 0)]
     whole += [sheet(jobs, (kind, [1], endings)) for kind, endings in ((1, [0, 0, 0, 256]), (0, [0, 1, 255, 257]), (0, [0, 1, 255]))]
     whole += [sheet((kind, [1], xs), (0, [1], [0] * len(xs))) for kind, xs in ((1, []), (0, [3, 4]), (1, [3, 4, 4]))]
-    whole += [sheet(*[(0, [18, 16, code % 6 + 1, 5], [LARGEST, code]) for code in range(12)]), sheet((0, [2], list(range(95, 107))))]
+    whole += [sheet(*[(0, [18, 16, code % 7 + 1, 5], [LARGEST, code]) for code in range(12)]), sheet((0, [2], list(range(95, 107))))]
     whole.append(sheet((1, [17, 18, 1, 1], list(range(1, 1025))), (0, [18, 1, 1], 1024 * [256])))
     for given in whole + [drawn_sheet() for _ in range(CASES // 20)]:
         programs(given)

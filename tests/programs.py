@@ -64,7 +64,13 @@ def written_out():
     both("a last byte of 0", changed(EXAMPLE, 29, 0), no(9), no(9))
     two = sheet((1, (17, 1), [1, 2]), (0, (1,), [0, 256]))
     both("a fault in column 1", changed(two, len(two) - 1, 0), no(9, 1), no(9, 1))
-    both("a malformed plan in column 1", changed(two, 27, 7), no(3, 1), no(3, 1))
+    both("a malformed plan in column 1", changed(two, 27, 8), no(3, 1), no(3, 1))
+    # 0 to 16 by code 7: four masks and 16 numbers, then a mask and the last
+    batches = bytes.fromhex("0101" "0007" + 14 * "00" + "11000000" "16000000" "FFFFFFFF"
+                            "000102030405060708090A0B0C0D0E0F" "0310")
+    numbers = b"".join(b"%d %d\n" % (i, i) for i in range(17))
+    both("four-wise", batches, b"columns 1\ncolumn 0 any plan 7 count 17 bytes 22\n" + numbers + b"end\n", no(12))
+    both("four-wise, an unused field not 0", changed(batches, 46, 0x43), no(9), no(9))
     jobs = (1, (17, 1), [3, 4, 9, 10])
     compare("board", "each ending", sheet(jobs, (0, (1,), [0, 1, 255, 256])), b"passed 1\nfailed 2\nunended 1\n")
     compare("board", "no jobs", sheet((1, (1,), []), (0, (1,), [])), b"passed 0\nfailed 0\nunended 0\n")
@@ -87,7 +93,8 @@ def damaged(rounds):
 
 
 def samples():
-    full = sheet(*[(0, (18, 2, 3), [x // 7 * 99991 for x in range(1024)])] + 15 * [(1, (17, 5), list(range(1024)))])
+    full = sheet((0, (18, 2, 3), [x // 7 * 99991 for x in range(1024)]), (0, (7,), [x * 99991 for x in range(1024)]),
+                 *14 * [(1, (17, 5), list(range(1024)))])
     both("16 columns of 1,024 numbers", full)
     for name, board in ("damaged", b"refused 9 column 2\n"), ("cut", b"refused 2 column 0\n"):
         data = (ROOT / ("samples/%s.sheet" % name)).read_bytes()

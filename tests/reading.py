@@ -1,4 +1,5 @@
-"""A plain reading of the sheet document (01-scope.md), written from its text alone.
+"""A plain reading of the sheet document (01-scope.md), written from its text alone, with
+request P1 (02-change-requests.md): code 7, four-wise null suppression.
 
 It shares nothing with the proved code and is there to be compared with it.  Where the
 document leaves room, "Decisions on open questions" 1 to 13 hold and are named in comments.
@@ -9,7 +10,7 @@ A place counts numbers, an offset counts bytes.
 from itertools import accumulate, groupby, islice
 
 MOST_NUMBER, MOST_COLUMNS, MOST_COUNT, MOST_SHEET = 2**32 - 1, 16, 1024, 65536
-VBYTE, GROUPS, G8IU, STREAM, GAMMA, DELTA = CODES = (1, 2, 3, 4, 5, 6)
+VBYTE, GROUPS, G8IU, STREAM, GAMMA, DELTA, FOURWISE = CODES = (1, 2, 3, 4, 5, 6, 7)
 REFERENCE, DIFFERENCES, RUNS = 16, 17, 18
 ANY, RISING = 0, 1
 NO_PLAN = bytes(15)
@@ -86,6 +87,17 @@ def write_g8iu(numbers):
         out += bytes([control]) + data + bytes(8 - len(data))       # waste bytes are 0
     return out
 
+def write_batches(numbers):
+    """Batches of up to 16 numbers: up to four masks together, then the numbers."""
+    out = b""
+    for first in range(0, len(numbers), 16):
+        batch = numbers[first:first + 16]
+        masks = up(len(batch), 4) * [0]                 # unused fields are 0, no data
+        for i, x in enumerate(batch):                   # leading zero bytes, first number lowest
+            masks[i // 4] += (4 - fewest(x)) << (2 * (i % 4))
+        out += bytes(masks) + b"".join(x.to_bytes(fewest(x), "little") for x in batch)
+    return out
+
 def gamma_bits(v):
     """z zero bits, then v in z+1 bits, where v lies from 2^z to 2^(z+1) - 1."""
     return "0" * (v.bit_length() - 1) + format(v, "b")
@@ -110,6 +122,8 @@ def write_code(code, numbers):
         return b"".join(c for c, _ in groups) + b"".join(d for _, d in groups)
     if code == G8IU:
         return write_g8iu(numbers)
+    if code == FOURWISE:
+        return write_batches(numbers)
     bits = {GAMMA: gamma_bits, DELTA: delta_bits}[code]
     return pack("".join(bits(x + 1) for x in numbers))      # v, the number plus one
 
@@ -150,6 +164,25 @@ def unit_stream(body, at, left):
 def unit_group(body, at, left):
     """The same group, its data right after its control byte."""
     numbers, (_, data_at) = unit_stream(body, (at, at + 1), left)
+    return numbers, data_at
+
+def unit_batch(body, at, left):
+    """A four-wise batch: its masks, then its up to 16 numbers."""
+    many = min(left, 16)
+    data_at = at + up(many, 4)
+    masks = body[at:data_at]
+    fault_if(len(masks) < up(many, 4))
+    numbers = []
+    for i in range(4 * len(masks)):
+        zeros = (masks[i // 4] >> (2 * (i % 4))) & 3    # the number's leading zero bytes
+        if i < many:
+            data = body[data_at:data_at + 4 - zeros]
+            x = int.from_bytes(data, "little")
+            fault_if(len(data) < 4 - zeros or fewest(x) != 4 - zeros)
+            numbers.append(x)
+            data_at += 4 - zeros
+        else:
+            fault_if(zeros != 0)                        # unused fields are 0, no data
     return numbers, data_at
 
 def unit_block(body, at, left):
@@ -199,7 +232,7 @@ def unit_delta(body, at, left):
     return [v - 1], at + length - 1
 
 UNIT = {VBYTE: unit_vbyte, GROUPS: unit_group, G8IU: unit_block,
-        STREAM: unit_stream, GAMMA: unit_gamma, DELTA: unit_delta}
+        STREAM: unit_stream, GAMMA: unit_gamma, DELTA: unit_delta, FOURWISE: unit_batch}
 
 def first_unit(code, body, n):
     """Where the first unit begins.  Stream VByte's control bytes must fit the body."""
@@ -291,7 +324,8 @@ def judge(kind, plan):
         return e.number
 
 def worst_tree(tree, n):
-    alone = {VBYTE: 5 * n, GROUPS: 4 * n + up(n, 4), STREAM: 4 * n + up(n, 4),
+    grouped = 4 * n + up(n, 4)
+    alone = {VBYTE: 5 * n, GROUPS: grouped, STREAM: grouped, FOURWISE: grouped,
              G8IU: up(n, 2) * 9, GAMMA: up(65 * n, 8), DELTA: up(43 * n, 8),
              REFERENCE: 4, DIFFERENCES: 0, RUNS: 8}
     return alone[tree[0]] + sum(worst_tree(inner, n) for inner in tree[1:])

@@ -43,7 +43,7 @@ def of(f, *args):
 
 def random_count():
     return rnd.choice((0, 1, 2, 3, 4, 5, 8, 9, rnd.randrange(20), rnd.randrange(20),
-                       rnd.randrange(20), rnd.randrange(60)))
+                       rnd.randrange(20), rnd.randrange(60), rnd.choice((15, 16, 17, 33))))
 
 
 def random_number():
@@ -262,14 +262,56 @@ def round_loose(tree, kind):
     lookups(tree, body, n, numbers)
 
 
+def broken_batch(numbers):
+    """A four-wise batch with one rule broken, and whether the body ends there."""
+    batch, masks = bytearray(r.write_code(r.FOURWISE, numbers)), r.up(len(numbers), 4)
+    short = [i for i, x in enumerate(numbers) if r.fewest(x) < 4]
+    unused = 2 * (len(numbers) % 4)                 # the bit of the last mask that they begin at
+    ways = ["masks cut", "data cut"] + ["unused field"] * (unused > 0) + ["longer"] * bool(short)
+    way = rnd.choice(ways)
+    count("batches with " + way)
+    if way == "masks cut":
+        del batch[rnd.randrange(masks):]
+    elif way == "data cut":
+        del batch[rnd.randrange(masks, len(batch)):]
+    elif way == "unused field":
+        batch[masks - 1] |= 1 << rnd.randrange(unused, 8)
+        batch += bytes(rnd.randrange(3))            # and perhaps what would be its data
+    else:
+        i = rnd.choice(short)
+        batch[i // 4] -= 1 << (2 * (i % 4))         # a leading zero byte less, put after it
+        batch.insert(masks + sum(r.fewest(x) for x in numbers[:i + 1]), 0)
+    return bytes(batch), way in ("masks cut", "data cut")
+
+
+def round_batches():
+    """One four-wise batch with a rule broken: what holds a place before it answers, the batch
+    itself and all after it refuse."""
+    numbers = random_list(0, rnd.randint(1, 50))
+    n = len(numbers)
+    first = 16 * rnd.randrange(r.up(n, 16))         # of the batch at fault
+    broken, last = broken_batch(numbers[first:first + 16])
+    body = r.write_code(r.FOURWISE, numbers[:first]) + broken
+    if not last:
+        body += r.write_code(r.FOURWISE, numbers[first + 16:])
+    same("broken batch read", of(r.read_code, r.FOURWISE, body, n), ("refused", 9), body, n)
+    same("broken batch looked up", [of(r.lookup_code, r.FOURWISE, body, n, i) for i in range(n)],
+         numbers[:first] + (n - first) * [("refused", 9)], body, n)
+    whole = r.write_code(r.FOURWISE, numbers) + bytes(rnd.randint(1, 4))
+    same("bytes left over read", of(r.read_code, r.FOURWISE, whole, n), ("refused", 9), whole, n)
+    place = rnd.randrange(n)
+    same("bytes left over looked up", of(r.lookup_code, r.FOURWISE, whole, n, place), numbers[place],
+         whole, n)
+
+
 def round_plan():
     """Plan bytes: well formed means the tree spelt again."""
-    plan = bytes(rnd.choice((0, 1, 2, 3, 4, 5, 6, 7, 16, 17, 18, 18, 19, 255))
+    plan = bytes(rnd.choice((0, 1, 2, 3, 4, 5, 6, 7, 8, 16, 17, 18, 18, 19, 255))
                  for _ in range(rnd.choice((1, 2, 3, 4, 5, 7, 15))))
     plan += bytes(15 - len(plan))
     if rnd.random() < 0.7:              # a plan with one byte changed
         plan = bytearray(fill(random_tree(1)))
-        plan[rnd.randrange(6)] = rnd.choice((0, 1, 3, 5, 6, 16, 17, 18, rnd.randrange(256)))
+        plan[rnd.randrange(6)] = rnd.choice((0, 1, 3, 5, 6, 7, 8, 16, 17, 18, rnd.randrange(256)))
         plan = bytes(plan)
     tree = of(r.parse_plan, plan)
     if tree == ("refused", 3):
@@ -362,7 +404,7 @@ def round_sheet():
 
 start = time.time()
 for i in range(ROUNDS):
-    turn, kind, code = i % 10, rnd.randrange(2), (r.CODES[i // 10 % 6],)
+    turn, kind, code = i % 10, rnd.randrange(2), (r.CODES[i // 10 % len(r.CODES)],)
     if turn < 3:
         round_body(code, kind)
     elif turn < 6:
@@ -371,6 +413,7 @@ for i in range(ROUNDS):
         round_loose(code if rnd.random() < 0.4 else random_tree(kind), kind)
     elif turn < 8:
         round_plan()
+        round_batches()
     else:
         round_sheet()
 for code in r.CODES:            # the longest lists, the worst numbers

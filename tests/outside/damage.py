@@ -76,6 +76,61 @@ def loose_g8iu(some):
     return out
 
 
+def batches_of(some):
+    """Four-wise batches, each its masks and a list with the bytes of every number."""
+    batches = []
+    for first in range(0, len(some), 16):
+        masks, data = bytearray(r.up(len(some[first:first + 16]), 4)), []
+        for i, x in enumerate(some[first:first + 16]):
+            masks[i // 4] |= (4 - r.fewest(x)) << (2 * (i % 4))
+            data.append(x.to_bytes(r.fewest(x), "little"))
+        batches.append((masks, data))
+    return batches
+
+
+def loose_batches(some):
+    batches, at, way = batches_of(some), rnd.randrange(len(some)), rnd.randrange(9)
+    (masks, data), i = batches[at // 16], at % 16
+    more = rnd.randint(0, 4 - len(data[i]))
+    if way <= 1 and more:                                       # longer than needed
+        masks[i // 4] -= more << (2 * (i % 4))
+        data[i] += bytes(more)
+    elif way <= 4:                                              # an unused field, or a mask too many
+        masks, data = batches[-1]
+        if len(data) % 4:
+            masks[-1] ^= rnd.choice((1, 1, 2, 3)) << (2 * rnd.randint(len(data) % 4, 3))
+        else:
+            masks.append(rnd.choice((0, 1, 3, 255)))
+        data.append(bytes(rnd.choice((0, 0, 1, 3))))            # what would be its data
+    elif way <= 6:                                              # the body ends inside the masks or the data
+        del batches[at // 16 + 1:], data[i + 1:]
+        data[i] = data[i][:rnd.randrange(len(data[i]))]
+        if way == 5:
+            del masks[rnd.randrange(len(masks)):], data[:]
+    elif way == 7:                                              # another length, the data as it was
+        masks[i // 4] ^= 1 << rnd.randrange(8)
+    else:
+        return as_others_write(batches)
+    return b"".join(bytes(masks) + b"".join(data) for masks, data in batches)
+
+
+def as_others_write(batches):
+    """Fields as in codes 2 and 4; the first field highest, as 004 draws it; every mask first; each mask alone."""
+    way = rnd.randrange(4)
+    if way == 2:
+        return b"".join(bytes(masks) for masks, _ in batches) + b"".join(b"".join(data) for _, data in batches)
+    body = b""
+    for masks, data in batches:
+        if way == 0:
+            masks = [255 - mask for mask in masks]
+        elif way == 1:
+            masks = [sum((mask >> 2 * k & 3) << (6 - 2 * k) for k in range(4)) for mask in masks]
+        else:
+            data = [bytes([masks[i // 4]]) * (i % 4 == 0) + x for i, x in enumerate(data)]
+        body += (bytes(masks) if way < 2 else b"") + b"".join(data)
+    return body
+
+
 def loose_elias(code, some):
     write = r.gamma_bits if code == r.GAMMA else r.delta_bits
     words_, at = [write(x + 1) for x in some], rnd.randrange(len(some))
@@ -140,6 +195,8 @@ def loosely(t, some):
         return loose_vbyte(some)
     if t[0] in (r.GROUPS, r.STREAM):
         return loose_groups(t[0], some)
+    if t[0] == r.FOURWISE:
+        return loose_batches(some)
     return loose_g8iu(some) if t[0] == r.G8IU else loose_elias(t[0], some)
 
 # ------------------------------------------------------------ bytes changed

@@ -81,7 +81,7 @@ def bad_plan():
         return filled(text((17, tree(0, 3, False)) if chance(40) else tree(0, rnd.choice((4, 5)), False)))
     some = bytearray(text(tree(rnd.randrange(2))))
     for _ in range(rnd.choice((0, 1, 1, 2))):
-        some[rnd.randrange(len(some))] = rnd.choice((0, 1, 6, 7, 15, 16, 17, 18, 19, 128, 255))
+        some[rnd.randrange(len(some))] = rnd.choice((0, 1, 6, 7, 8, 15, 16, 17, 18, 19, 128, 255))
     if chance(20):
         some = bytes(rnd.choice((1, 3, 16, 17, 18)) for _ in range(rnd.randint(1, 15)))
     some = bytearray(filled(bytes(some)))
@@ -91,4 +91,6 @@ def bad_plan():
 
 
 def count():
-    return rnd.choice((0, 1, 2, 3, 4, 5, 7, 8, 9, rnd.randrange(16), rnd.randrange(16), rnd.randrange(40)))
+    """How many numbers: mostly few, some around the ends of four-wise batches."""
+    return rnd.choice((0, 1, 2, 3, 4, 5, 7, 8, 9, rnd.randrange(16), rnd.randrange(16), rnd.randrange(40),
+                       rnd.choice((15, 16, 17, 20, 32, 33))))

@@ -120,6 +120,8 @@ def on_a_body():
     if t[0] == r.G8IU and chance(50):
         some = [x % 2**rnd.choice((8, 8, 16)) for x in some]
         kind = 0
+    if t[0] == r.FOURWISE and chance(50):                   # more than one batch
+        some = numbers(kind, rnd.randint(16, 50))
     made = assemble([(kind, filled(text(t)), len(some), loosely(t, some))])
     yield operation("check", [made], work=8 * len(some))
     yield operation("read", [made], 0, work=7 * len(some), out=4 * len(some))

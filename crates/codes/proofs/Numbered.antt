@@ -4,15 +4,13 @@ use mathlib.Core.Path.{_≡_, refl}
 use mathlib.Core.List.{List}
 use borrow.Author.Tests.{ne-eqb}
 use Rattle.meaning.specs.Answer.{given}
-use Rattle.meaning.specs.Codes.{codeOf, codeVByte, codeGroups, codeG8IU, codeStream, codeGamma, codeDelta}
-use Rattle.meaning.specs.Elias.{doneElias}
+use Rattle.meaning.specs.Codes.{codeOf, codeVByte, codeGroups, codeG8IU, codeStream, codeGamma, codeDelta, codeBatches}
 use Rattle.meaning.specs.Places.{Spare}
 use Rattle.meaning.specs.Positions.{atByte}
-use Rattle.meaning.specs.declared.Position.{Position}
 use Rattle.meaning.proofs.Codes.{by-number, by-code, spare-always}
 use Rattle.meaning.proofs.Lawful.{Lawful}
 use Rattle.vbyte.proofs.Laws.{lawful as vbyte}
-use Rattle.groups.proofs.Laws.{lawful-groups, lawful-stream}
+use Rattle.groups.proofs.Laws.{lawful-groups, lawful-stream, lawful-batches}
 use Rattle.g8iu.proofs.Laws.{lawful as g8iu}
 use Rattle.elias.proofs.Laws.{lawful-gamma, lawful-delta}
 
@@ -37,26 +35,25 @@ module _ (c : ℕ) where
   unfolding codeOf
   code-5 e = rw e
 
-  pub code-6 : (c ≡ 1 → ⊥) → (c ≡ 2 → ⊥) → (c ≡ 3 → ⊥) → (c ≡ 4 → ⊥) → (c ≡ 5 → ⊥) → codeOf c ≡ codeDelta
+  pub code-6 : c ≡ 6 → codeOf c ≡ codeDelta
   unfolding codeOf
-  code-6 a b d e f = rw (ne-eqb c 1 a, ne-eqb c 2 b, ne-eqb c 3 d, ne-eqb c 4 e, ne-eqb c 5 f)
+  code-6 e = rw e
+
+  pub code-7 : (c ≡ 1 → ⊥) → (c ≡ 2 → ⊥) → (c ≡ 3 → ⊥) → (c ≡ 4 → ⊥) → (c ≡ 5 → ⊥) → (c ≡ 6 → ⊥) → codeOf c ≡ codeBatches
+  unfolding codeOf
+  code-7 a b d e f g = rw (ne-eqb c 1 a, ne-eqb c 2 b, ne-eqb c 3 d, ne-eqb c 4 e, ne-eqb c 5 f, ne-eqb c 6 g)
 
   -- every other code than Stream VByte begins with its first byte or bit
   pub start-other : (body : List ℕ) (n : ℕ) → (c ≡ 4 → ⊥) → codeOf c .start body n ≡ given (atByte 0)
   start-other body n h =
-      by-number (λ d. d .start body n ≡ given (atByte 0)) c (λ e. refl) (λ e. refl) (λ e. refl) (λ e. absurd (h e)) (λ e. refl) refl
-
-  -- gamma and delta leave nothing over but spare bits
-  pub done-other : (body : List ℕ) (p : Position) → (c ≡ 1 → ⊥) → (c ≡ 2 → ⊥) → (c ≡ 3 → ⊥) → (c ≡ 4 → ⊥) → codeOf c .done body p ≡ doneElias body p
-  done-other body p a b d e =
-      by-number (λ k. k .done body p ≡ doneElias body p) c (λ q. absurd (a q)) (λ q. absurd (b q)) (λ q. absurd (d q)) (λ q. absurd (e q)) (λ q. refl) refl
+      by-number (λ d. d .start body n ≡ given (atByte 0)) c (λ e. refl) (λ e. refl) (λ e. refl) (λ e. absurd (h e)) (λ e. refl) (λ e. refl) refl
 
   -- every other code than G8IU leaves nothing spare
   pub spare-other : (before : List ℕ) → (c ≡ 3 → ⊥) → Spare (codeOf c .joins) before 0
   spare-other before h =
       let none = spare-always before in
-      by-number (λ d. Spare (d .joins) before 0) c (λ e. none) (λ e. none) (λ e. absurd (h e)) (λ e. none) (λ e. none) none
+      by-number (λ d. Spare (d .joins) before 0) c (λ e. none) (λ e. none) (λ e. absurd (h e)) (λ e. none) (λ e. none) (λ e. none) none
 
 -- each code is lawful
 pub laws : (c : ℕ) → Lawful (codeOf c)
-laws c = by-code Lawful vbyte lawful-groups g8iu lawful-stream lawful-gamma lawful-delta c
+laws c = by-code Lawful vbyte lawful-groups g8iu lawful-stream lawful-gamma lawful-delta lawful-batches c

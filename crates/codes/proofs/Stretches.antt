@@ -40,12 +40,6 @@ module _ {a : Answer (Position × List ℕ)} {r : UnitRead} (is : UnitIs a r) wh
       fewer : unitCount (r .unit) ≤ unitPlaces → r .unit ≡ Next q k → k ≤ unitPlaces
       fewer h g = rw g at h
 
--- ---- one more number laid into a slice
-pub lay-turn : (w₀ w ns : List ℕ) (at i : ℕ) → i < length ns → w ≡ sets w₀ at (take i ns) → set w (at + i) (getD ns i 0) ≡ sets w₀ at (take (i + 1) ns)
-lay-turn w₀ w ns at i k e =
-    let n : length (take i ns) ≡ i = length-take-le i ns (omega arith) in
-    rw (e, add-one, take-suc ns i 0 k) (ap (λ (j : ℕ). set (sets w₀ at (take i ns)) (at + j) (getD ns i 0)) (sym n) ∙ sets-snoc (take i ns) (getD ns i 0) w₀ at)
-
 shorter : (a b : ℕ) (xs : List ℕ) → take (min a b) xs ≡ take a (take b xs)
 shorter a b xs =
     by-order b a

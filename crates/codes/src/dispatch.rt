@@ -33,7 +33,8 @@ pub fn write_code(
         3 => g8iu::write(list, from, n, out, at),
         4 => groups::write_stream(list, from, n, out, at),
         5 => elias::write_gamma(list, from, n, out, at),
-        _ => elias::write_delta(list, from, n, out, at),
+        6 => elias::write_delta(list, from, n, out, at),
+        _ => groups::write_batches(list, from, n, out, at),
     }
 }
 
@@ -48,7 +49,8 @@ pub fn unit_at(code: u8, body: &[u8], left: usize, at: Position) -> UnitRead
         3 => g8iu::unit(body, left, at),
         4 => groups::unit_stream(body, left, at),
         5 => elias::unit_gamma(body, left, at),
-        _ => elias::unit_delta(body, left, at),
+        6 => elias::unit_delta(body, left, at),
+        _ => groups::unit_batches(body, left, at),
     }
 }
 
@@ -71,7 +73,8 @@ pub fn take_units(
         3 => g8iu::take(body, left, at, work, from, room),
         4 => groups::take_stream(body, left, at, work, from, room),
         5 => elias::take_gamma(body, left, at, work, from, room),
-        _ => elias::take_delta(body, left, at, work, from, room),
+        6 => elias::take_delta(body, left, at, work, from, room),
+        _ => groups::take_batches(body, left, at, work, from, room),
     }
 }
 
@@ -102,7 +105,7 @@ pub fn start_at(code: u8, body: &[u8], n: usize) -> Started
 }
 
 // What a unit of the first `count` numbers left spare: in G8IU alone another number could have followed them.
-pub fn spare_after(code: u8, numbers: [u32; 8], count: usize) -> usize
+pub fn spare_after(code: u8, numbers: [u32; 16], count: usize) -> usize
     requires { ⌜ count ≤ unitPlaces ⌝ }
     ensures { λ r. ⌜ Spare (codeOf code .joins) (take count numbers) r ⌝ }
 {
@@ -123,7 +126,9 @@ pub fn done_at(code: u8, body: &[u8], at: Position) -> bool
         2 => at.head.byte == len,
         3 => at.head.byte == len,
         4 => at.tail.byte == len,
-        _ => elias::done(body, at),
+        5 => elias::done(body, at),
+        6 => elias::done(body, at),
+        _ => at.head.byte == len,
     }
 }
 
@@ -135,6 +140,7 @@ pub fn unit_most(code: u8) -> usize
         2 => 4,
         3 => 8,
         4 => 4,
+        7 => 16,
         _ => 1,
     }
 }

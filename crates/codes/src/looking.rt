@@ -171,7 +171,7 @@ pub fn seek_code(code: u8, body: &[u8], runs: usize, n: usize, place: Place) -> 
     let mut done = start;
     while passed < runs {
         // Each run holds a number at least, so no more lengths are needed than places are left; a unit's are.
-        let room = lesser(32, goal - done.number + 8);
+        let room = lesser(32, goal - done.number + 16);
         let went = stretch(code, body, runs - passed, at, &mut lengths, start, room);
         let Went::On(taken) = went else {
             return Run::Refused(went_refusal(went));

@@ -4,6 +4,7 @@ use crate::Went;
 use crate::dispatch::spare_after;
 use crate::dispatch::take_units;
 use crate::dispatch::unit_at;
+use leaves::lay;
 use leaves::lesser;
 use leaves::refusal_of;
 use meaning::Place;
@@ -37,19 +38,6 @@ pub fn went_refusal(w: Went) -> u8
     match w {
         Went::On(_) => 0,
         Went::Refused(e) => e,
-    }
-}
-
-// A unit's first k numbers go to work from a place on.
-fn lay(work: &mut [u32], from: Place, numbers: [u32; 8], k: usize)
-    requires { ⌜ (k ≤ unitPlaces) × (from .number + k ≤ length (now work)) ⌝ }
-    ensures { λ _. ⌜ now (work .exit) ≡ sets (now (work .entry)) (from .number) (take k numbers) ⌝ }
-{
-    let first = from.number;
-    let mut i: usize = 0;
-    while i < k {
-        work[first + i] = numbers[i];
-        i += 1;
     }
 }
 

@@ -9,7 +9,7 @@ use lib.ListN.{length, getD, drop}
 use lib.Seq.{getD-drop}
 use borrow.Author.Tests.{eqb-true, leb-true}
 use Rattle.meaning.specs.Bytes.{word}
-use Rattle.meaning.specs.Codes.{isCode}
+use Rattle.meaning.specs.Codes.{isCode, lastCode}
 use Rattle.meaning.specs.Limits.{mostColumns, planBytes, mostStages, badPlan}
 use Rattle.meaning.specs.Lists.{all, joined}
 use Rattle.meaning.specs.Places.{Below}
@@ -28,7 +28,7 @@ use Rattle.demands.proofs.Passing.{Writable, AllWritable}
 -- ---- a well-formed plan: each byte up to its end is a known number, and the rest is 0
 known-code : (b : ℕ) → isCode b ≡ true → b < 256
 unfolding isCode
-known-code b e = omega (arith, leb-true b 6 (both-true (leb 1 b) (leb b 6) e .1))
+known-code b e = omega (arith, leb-true b lastCode (both-true (leb 1 b) (leb b lastCode) e .1))
 
 known-stage : (stages b k : ℕ) → k < 256 → leb 1 stages && eqb b k ≡ true → b < 256
 known-stage stages b k h e = omega (arith, eqb-true b k (both-true (leb 1 stages) (eqb b k) e .1))

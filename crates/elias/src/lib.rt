@@ -37,7 +37,7 @@ fn unit(body: &[u8], at: Position, form: Form) -> UnitRead
     requires { ⌜ length (now body) ≤ mostBytes ⌝ }
     ensures { λ r. ⌜ UnitIs (codeWith form .unit (now (body .entry)) 0 at) r ⌝ }
 {
-    let mut numbers = [0u32; 8];
+    let mut numbers = [0u32; 16];
     let bit = at.bit;
     let w = word_at(body, bit, form);
     match w {

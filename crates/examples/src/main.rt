@@ -1,4 +1,4 @@
-// Document 01's examples that are run, and the errors seen in earlier code, each a line with the refusal's number and the numbers read.
+// The examples of document 01 and request P1 that are run, and the errors seen in earlier code, each a line with the refusal's number and the numbers read.
 use libc::STDOUT_FILENO;
 use meaning::Found;
 use meaning::Judged;
@@ -144,6 +144,81 @@ fn bodies() {
     );
 }
 
+fn four_wise(name: &[u8], body: &[u8], n: usize) {
+    read(
+        name,
+        &[7, 0, 0, 0, 0, 0, 0, 0, 0, 0, 0, 0, 0, 0, 0],
+        body,
+        n,
+    );
+}
+
+// Bodies of code 7: request P1's first example and its faults, and a batch of 16 with a 17th number behind it.
+fn batches() {
+    four_wise(
+        b"four-wise 3E BF",
+        &[0x3e, 0xbf, 0, 4, 12, 10, 0, 0, 0, 0x40, 1, 2, 3, 0, 4],
+        8,
+    );
+    four_wise(b"four-wise 03 00", &[3, 0], 1);
+    four_wise(b"an unused field not 0", &[0x0b, 0], 1);
+    four_wise(b"a byte too many", &[2, 0, 0], 1);
+    four_wise(b"cut in masks", &[0xff], 5);
+    four_wise(b"cut in data", &[0xff, 3, 1, 2, 3, 4], 5);
+    four_wise(b"a byte left over", &[3, 0, 0], 1);
+    let two = [
+        255u8,
+        255,
+        255,
+        255,
+        0,
+        1,
+        2,
+        3,
+        4,
+        5,
+        6,
+        7,
+        8,
+        9,
+        10,
+        11,
+        12,
+        13,
+        14,
+        15,
+        3,
+        16,
+    ];
+    four_wise(b"17 four-wise", &two, 17);
+    looked(b"the 17th of 17 four-wise", 7, &two, 17, 16);
+    let cut = [
+        255u8,
+        255,
+        255,
+        255,
+        0,
+        1,
+        2,
+        3,
+        4,
+        5,
+        6,
+        7,
+        8,
+        9,
+        10,
+        11,
+        12,
+        13,
+        14,
+        15,
+        3,
+    ];
+    looked(b"the 16th, the second batch cut", 7, &cut, 17, 15);
+    looked(b"the 17th, the second batch cut", 7, &cut, 17, 16);
+}
+
 // Reading empty fields of the last group as numbers, one added to 4294967295 in 32 bits, 002's end bit, room left in a block.
 fn earlier_errors() {
     looked(b"fifth of five in groups", 2, &[0, 1, 2, 3, 4, 0, 5], 5, 4);
@@ -175,5 +250,6 @@ fn earlier_errors() {
 fn main() {
     plans();
     bodies();
+    batches();
     earlier_errors();
 }

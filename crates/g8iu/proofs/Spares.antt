@@ -9,6 +9,7 @@ use lib.Seq.{take-suc, length-take-le}
 use borrow.Author.Tests.{le-leb, lt-leb, lt-ltb, le-ltb}
 use Rattle.meaning.specs.DataBytes.{byteLength, dataBytes}
 use Rattle.meaning.specs.G8IU.{fits, joinsG8IU}
+use Rattle.meaning.specs.Limits.{unitPlaces}
 use Rattle.meaning.specs.Lists.{joined}
 use Rattle.meaning.specs.Places.{Spare}
 use Rattle.meaning.proofs.Codes.{length-some}
@@ -34,13 +35,13 @@ spare-of (y ∷ ys) some xs =
 -- the bytes that the first i of a unit's numbers use
 pub record UsedSo (numbers : List ℕ) (count used i : ℕ) : Type 0 where
   pub places : count ≤ length numbers
-  pub eight : count ≤ 8
+  pub most : count ≤ unitPlaces
   pub few : i ≤ count
   pub is : used ≡ length (dataBytes (take i numbers))
 
-pub used-start : {numbers : List ℕ} {count : ℕ} → count ≤ length numbers → count ≤ 8 → UsedSo numbers count 0 0
+pub used-start : {numbers : List ℕ} {count : ℕ} → count ≤ length numbers → count ≤ unitPlaces → UsedSo numbers count 0 0
 unfolding dataBytes joined
-used-start places eight = record { places = places; eight = eight; few = omega arith; is = refl }
+used-start places most = record { places = places; most = most; few = omega arith; is = refl }
 
 module _ {numbers : List ℕ} {count used i : ℕ} (so : UsedSo numbers count used i) where
   pub used-most : used ≤ 4 * i
@@ -50,7 +51,7 @@ module _ {numbers : List ℕ} {count used i : ℕ} (so : UsedSo numbers count us
   used-turn h {l} e =
       record {
         places = so .places;
-        eight = so .eight;
+        most = so .most;
         few = omega arith;
         is = rw (e, so .is, add-one i, take-suc numbers i 0 (omega (arith, so .places))) (sym (data-more (take i numbers) (getD numbers i 0)));
       }

@@ -13,7 +13,7 @@ use borrow.Author.Tests.{le-leb, lt-leb, leb-true, eq-eqb, ne-eqb}
 use Rattle.meaning.specs.Answer.{Answer, given, refused, bind, need}
 use Rattle.meaning.specs.DataBytes.{byteLength, dataBytes, dataIn}
 use Rattle.meaning.specs.G8IU.{blockLengths, blockIn, unitG8IU}
-use Rattle.meaning.specs.Limits.{fault}
+use Rattle.meaning.specs.Limits.{fault, unitPlaces}
 use Rattle.meaning.specs.Lists.{all, sum}
 use Rattle.meaning.specs.Places.{UnitIs}
 use Rattle.meaning.specs.Positions.{atByte}
@@ -157,11 +157,11 @@ pub record Standing (body : List ℕ) (left : ℕ) (p : Position) : Type 0 where
   pub allows : allowed left (lengthsAt body (p .head .byte)) ≡ true
 
 module _ {body : List ℕ} {left : ℕ} {p : Position} (so : Standing body left p) where
-  pub unit-asks : {ends : ℕ} → ends ≡ 255 - getD body (p .head .byte) 0 → Ending body (p .head .byte) ends mostOf leastOf (replicate 8 0) 0
+  pub unit-asks : {ends : ℕ} → ends ≡ 255 - getD body (p .head .byte) 0 → Ending body (p .head .byte) ends mostOf leastOf (replicate unitPlaces 0) 0
   unit-asks e =
       record { inside = so .inside; zeros = e; some = rw e (allows-some (so .byte) left (so .allows)); highest = refl; lowest = refl; fits = omega arith }
 
-  module _ {numbers : List ℕ} {count : ℕ} (is : BlockIs body (p .head .byte) 0 (replicate 8 0) numbers count) where
+  module _ {numbers : List ℕ} {count : ℕ} (is : BlockIs body (p .head .byte) 0 (replicate unitPlaces 0) numbers count) where
     pub unit-fault : count ≡ 0 → unitG8IU body left p ≡ refused fault
     unit-fault e = unit-numbers body left p (so .inside) (so .allows) (refused fault) (is .are ∙ ap orFault (or-none 0 (is .numbers) (sym (is .ends) ∙ e)))
 
@@ -172,7 +172,7 @@ module _ {body : List ℕ} {left : ℕ} {p : Position} (so : Standing body left 
         let g : numbersAt body (p .head .byte) ≡ given xs = is .are ∙ sym (or-given xs many) in
         let few = block-few body (p .head .byte) (so .byte) xs g in
         let k : count ≡ length xs = omega (arith, is .ends) in
-        let (t, d) = first-of xs 8 few in
+        let (t, d) = first-of xs unitPlaces (omega arith) in
         record {
           told = rw (k, is .here, t) (sym (unit-numbers body left p (so .inside) (so .allows) (given xs) g));
           few = omega arith;

@@ -22,7 +22,7 @@ ghost use lib.ListN.{length, take};
 ghost use Rattle.meaning.specs.Answer.{refused};
 ghost use Rattle.meaning.specs.Codes.{codeG8IU};
 ghost use Rattle.meaning.specs.G8IU.{blockLengths};
-ghost use Rattle.meaning.specs.Limits.{mostBytes, fault};
+ghost use Rattle.meaning.specs.Limits.{mostBytes, unitPlaces, fault};
 ghost use Rattle.meaning.specs.Places.{Source, Target, Wrote, UnitIs, Took, Ends, Spare, part};
 ghost use Rattle.meaning.specs.Positions.{atByte};
 ghost use Rattle.g8iu.specs.Blocks.{allowed, Plain};
@@ -51,7 +51,7 @@ fn refusal() -> UnitRead
 {
     UnitRead {
         unit: Unit::Refused(FAULT),
-        numbers: [0u32; 8],
+        numbers: [0u32; 16],
     }
 }
 
@@ -89,7 +89,7 @@ pub fn unit(body: &[u8], left: usize, at: Position) -> UnitRead
     }
     let most = MOST;
     let least = LEAST;
-    let mut numbers = [0u32; 8];
+    let mut numbers = [0u32; 16];
     let ends = 255 - wide(control);
     let count = take_ends(
         body,
@@ -179,9 +179,9 @@ pub fn take(
     reached(at, from, next, Offset { byte: to }, spare)
 }
 
-// What a block of so many numbers left spare of its 8 data bytes.
-pub fn spare_after(numbers: [u32; 8], count: usize) -> usize
-    requires { ⌜ count ≤ 8 ⌝ }
+// What a block of so many numbers left spare of its 8 data bytes. The array is that of any code's unit, which may hold more numbers than a block.
+pub fn spare_after(numbers: [u32; 16], count: usize) -> usize
+    requires { ⌜ count ≤ unitPlaces ⌝ }
     ensures { λ r. ⌜ Spare (codeG8IU .joins) (take count numbers) r ⌝ }
 {
     if count == 0 {

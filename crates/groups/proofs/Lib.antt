@@ -1,6 +1,6 @@
--- The facts on groups, said once for every code that has them, the laws of codes 2 and 4, and the steps of this crate's functions on plain values.
+-- The facts on groups, said once for every code that has them, the laws of codes 2, 4 and 7, and the steps of this crate's functions on plain values.
 pub mod Controls
-pub mod Fours
+pub mod Pieces
 pub mod OneGroup
 pub mod Grouped
 pub mod Laws

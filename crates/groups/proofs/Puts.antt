@@ -1,13 +1,13 @@
 -- What the loops that put bytes know, and the part of a list that each turn puts. Assumes nothing.
-use Prim.Native.Nat.{ℕ, zero, suc, _+_, _-_, _*_, _≤_, _<_, min}
+use Prim.Native.Nat.{ℕ, zero, suc, _+_, _-_, _*_, _^_, _≤_, _<_, min}
 use mathlib.Core.Path.{_≡_, refl, sym, ap, _∙_}
-use mathlib.Core.List.{List, [], _∷_, _++_}
+use mathlib.Core.List.{List, [], _∷_, _++_, append-assoc, map}
 use native.Mathlib.Nat.{add-zero, add-assoc, sub-zero}
 use native.Mathlib.Omega.{arith}
-use lib.ListN.{length, getD, take, drop, set, length-take}
+use lib.ListN.{length, getD, take, drop, set, length-append, length-map, length-take}
 use lib.Seq.{sets, take-nil, take-all, take-take, drop-drop}
 use Rattle.meaning.specs.DataBytes.{byteLength, fewest, dataBytes}
-use Rattle.meaning.specs.Groups.{fours, groupCount, controlOf, control, writeGroups}
+use Rattle.meaning.specs.Groups.{Grouping, fours, batches, groupCount, controlOf, control, writeGroups}
 use Rattle.meaning.specs.Lists.{joined}
 use Rattle.meaning.specs.Places.{Wrote, part}
 use Rattle.meaning.specs.declared.Offset.{Offset}
@@ -16,7 +16,8 @@ use Rattle.words.proofs.DataBytes.{few-length, data-cons, data-most}
 use Rattle.leaves.proofs.Parts.{part-length, part-cons}
 use Rattle.leaves.proofs.Putting.{Left, left-start, left-long, left-turn, left-end}
 use Rattle.groups.specs.Parts.{dataOf, controlsOf, groupsOf}
-use Rattle.groups.proofs.Fours.{groups-next, controls-next, controls-count, groups-size}
+use Rattle.groups.proofs.Controls.{Fields, lengths-of, mask-of}
+use Rattle.groups.proofs.Pieces.{groups-next, groups-none, controls-next, controls-none, controls-count, groups-size}
 
 -- ---- the bytes of n numbers, `bytes place count`, of which those from number i on are still to be put: putting them makes the whole
 module _ (bytes : ℕ → ℕ → List ℕ) (from n at : ℕ) (out₀ : List ℕ) where
@@ -57,16 +58,17 @@ drop-take (suc k) zero l = let e : 0 - suc k ≡ 0 = omega arith in rw e
 drop-take (suc k) (suc m) [] = sym (take-nil (suc m - suc k))
 drop-take (suc k) (suc m) (x ∷ l) = let e : suc m - suc k ≡ m - k = omega arith in rw e (drop-take k m l)
 
--- the next group of a part, and the part after it
-pub part-four : (xs : List ℕ) (from m k : ℕ) → k ≡ min 4 m → (take 4 (part xs from m) ≡ part xs from k) × (drop 4 (part xs from m) ≡ part xs (from + k) (m - k))
-part-four xs from m k e =
-    by-order m 4
+-- the next piece of a part, and the part after it
+pub part-piece : (xs : List ℕ) (from m most k : ℕ) → k ≡ min most m
+    → (take most (part xs from m) ≡ part xs from k) × (drop most (part xs from m) ≡ part xs (from + k) (m - k))
+part-piece xs from m most k e =
+    by-order m most
     (λ t. let n : k ≡ m = omega arith in
-    let z : m - 4 ≡ 0 = omega arith in
+    let z : m - most ≡ 0 = omega arith in
     let y : m - m ≡ 0 = omega arith in
-    rw n (take-all 4 (part xs from m) (omega (arith, length-take m (drop from xs))), drop-take 4 m (drop from xs) ∙ rw (z, y)))
-    (λ t. let n : k ≡ 4 = omega arith in
-    rw n (take-take 4 m (drop from xs) t, drop-take 4 m (drop from xs) ∙ ap (take (m - 4)) (drop-drop 4 from xs)))
+    rw n (take-all most (part xs from m) (omega (arith, length-take m (drop from xs))), drop-take most m (drop from xs) ∙ rw (z, y)))
+    (λ t. let n : k ≡ most = omega arith in
+    rw n (take-take most m (drop from xs) t, drop-take most m (drop from xs) ∙ ap (take (m - most)) (drop-drop most from xs)))
 
 -- ---- what each loop puts, and what one turn of it puts first
 module _ (xs : List ℕ) where
@@ -74,47 +76,51 @@ module _ (xs : List ℕ) where
   unfolding dataBytes joined
   data-none place = refl
 
-  pub controls-none : (place : ℕ) → controlsOf xs place 0 ≡ []
-  unfolding fours
-  controls-none place = refl
-
-  pub groups-none : (place : ℕ) → groupsOf xs place 0 ≡ []
-  unfolding writeGroups fours joined
-  groups-none place = refl
-
   module _ (from left : ℕ) (some : 0 < left) (inside : from + left ≤ length xs) where
     pub data-turn : dataOf xs from left ≡ fewest (getD xs from 0) ++ dataOf xs (from + 1) (left - 1)
     data-turn = rw (part-cons xs from left some inside) (data-cons (getD xs from 0) (part xs (from + 1) (left - 1)))
 
-    module _ (k : ℕ) (next : k ≡ min 4 left) where
-      some-part : 0 < length (part xs from left)
-      some-part = omega (arith, part-length xs from left inside)
+    some-part : 0 < length (part xs from left)
+    some-part = omega (arith, part-length xs from left inside)
 
-      pub controls-turn : controlsOf xs from left ≡ control (part xs from k) ∷ controlsOf xs (from + k) (left - k)
-      controls-turn = let (front, back) = part-four xs from left k next in controls-next (part xs from left) some-part ∙ rw (front, back)
+    pub controls-turn : (g : Grouping) (k : ℕ) → k ≡ min 4 left → controlsOf g xs from left ≡ control g (part xs from k) ∷ controlsOf g xs (from + k) (left - k)
+    controls-turn g k next = let (front, back) = part-piece xs from left 4 k next in controls-next g (part xs from left) some-part ∙ rw (front, back)
 
-      pub groups-turn : groupsOf xs from left ≡ control (part xs from k) ∷ (dataBytes (part xs from k) ++ groupsOf xs (from + k) (left - k))
-      groups-turn = let (front, back) = part-four xs from left k next in groups-next (part xs from left) some-part ∙ rw (front, back)
+    pub groups-turn : {g : Grouping} → Fields g → (k : ℕ) → k ≡ min (g .most) left
+        → groupsOf g xs from left ≡ (controlsOf g xs from k ++ dataOf xs from k) ++ groupsOf g xs (from + k) (left - k)
+    groups-turn {g} by k next =
+        let (front, back) = part-piece xs from left (g .most) k next in
+        groups-next by (part xs from left) some-part
+        ∙ rw (front, back) (sym (append-assoc (controlsOf g xs from k) (dataOf xs from k) (groupsOf g xs (from + k) (left - k))))
 
-  -- at most 4 bytes a number, one a group
+  -- four numbers at most have one control byte
+  pub one-control : (g : Grouping) (from k : ℕ) → 0 < k → k ≤ 4 → from + k ≤ length xs → controlsOf g xs from k ≡ control g (part xs from k) ∷ []
+  one-control g from k some few inside =
+      let none : k - k ≡ 0 = omega arith in
+      controls-turn from k some inside g k (omega arith) ∙ rw (none, controls-none g)
+
+  -- at most 4 bytes a number, one control byte for four
   module _ (from n : ℕ) (inside : from + n ≤ length xs) where
     pub data-bound : length (dataOf xs from n) ≤ 4 * n
     data-bound = omega (arith, data-most (part xs from n), part-length xs from n inside)
 
-    pub controls-bound : length (controlsOf xs from n) ≤ n
+    pub controls-bound : (g : Grouping) → length (controlsOf g xs from n) ≤ n
     unfolding groupCount
-    controls-bound = omega (arith, controls-count (part xs from n), part-length xs from n inside)
+    controls-bound g = omega (arith, controls-count g (part xs from n), part-length xs from n inside)
 
-    pub groups-bound : length (groupsOf xs from n) ≤ 5 * n
+    pub groups-bound : {g : Grouping} → Fields g → length (groupsOf g xs from n) ≤ 5 * n
     unfolding groupCount
-    groups-bound = omega (arith, groups-size (part xs from n), data-bound, part-length xs from n inside)
+    groups-bound by = omega (arith, groups-size by (part xs from n), data-bound, part-length xs from n inside)
 
--- before a group there is room for its control byte
-pub groups-room : (xs : List ℕ) {from n at : ℕ} {out₀ out : List ℕ} {to i : ℕ} → PutSo (groupsOf xs) from n at out₀ out to i → from + n ≤ length xs → i < n
-    → to + 1 ≤ at + 5 * n
-groups-room xs {from} {n} {i = i} so inside more =
-    let next = groups-turn xs (from + i) (n - i) (omega arith) (omega arith) (min 4 (n - i)) refl in
-    omega (arith, ap length next, so .left .ends, groups-bound xs from n inside)
+-- before a group there is room for its bytes
+pub groups-room : {g : Grouping} → Fields g → (xs : List ℕ) {from n at : ℕ} {out₀ out : List ℕ} {to i : ℕ} → PutSo (groupsOf g xs) from n at out₀ out to i
+    → from + n ≤ length xs → i < n → (k : ℕ) → k ≡ min (g .most) (n - i)
+    → to + (length (controlsOf g xs (from + i) k) + length (dataOf xs (from + i) k)) ≤ at + 5 * n
+groups-room {g} by xs {from} {n} {i = i} so inside more k next =
+    let turn = groups-turn xs (from + i) (n - i) (omega arith) (omega arith) by k next in
+    let long = ap length turn ∙ length-append (controlsOf g xs (from + i) k ++ dataOf xs (from + i) k) _ in
+    let both = length-append (controlsOf g xs (from + i) k) (dataOf xs (from + i) k) in
+    omega (arith, so .left .ends, groups-bound xs from n inside by)
 
 -- ---- the control byte of one to four numbers of a list
 module _ (xs : List ℕ) where
@@ -122,11 +128,11 @@ module _ (xs : List ℕ) where
   abbrev field : ℕ → ℕ
   field from = byteLength (getD xs from 0) - 1
 
-  control-next : (from m : ℕ) → 0 < m → from + m ≤ length xs → control (part xs from m) ≡ field from + 4 * control (part xs (from + 1) (m - 1))
+  control-next : (from m : ℕ) → 0 < m → from + m ≤ length xs → control fours (part xs from m) ≡ field from + 4 * control fours (part xs (from + 1) (m - 1))
   unfolding control controlOf
   control-next from m some h = rw (part-cons xs from m some h)
 
-  pub control-0 : (from : ℕ) → 0 ≡ control (part xs from 0)
+  pub control-0 : (from : ℕ) → 0 ≡ control fours (part xs from 0)
   unfolding control controlOf
   control-0 from = refl
 
@@ -134,15 +140,26 @@ module _ (xs : List ℕ) where
   later : (from k : ℕ) → field (from + 1 + k) ≡ field (from + (1 + k))
   later from k = ap field (add-assoc from 1 k)
 
-  pub control-1 : (from : ℕ) → from + 1 ≤ length xs → field from ≡ control (part xs from 1)
+  pub control-1 : (from : ℕ) → from + 1 ≤ length xs → field from ≡ control fours (part xs from 1)
   control-1 from h = omega (arith, control-next from 1 (omega arith) h, control-0 (from + 1))
 
-  pub control-2 : (from : ℕ) → from + 2 ≤ length xs → field from + 4 * field (from + 1) ≡ control (part xs from 2)
+  pub control-2 : (from : ℕ) → from + 2 ≤ length xs → field from + 4 * field (from + 1) ≡ control fours (part xs from 2)
   control-2 from h = omega (arith, control-next from 2 (omega arith) h, control-1 (from + 1) (omega arith))
 
-  pub control-3 : (from : ℕ) → from + 3 ≤ length xs → field from + 4 * field (from + 1) + 16 * field (from + 2) ≡ control (part xs from 3)
+  pub control-3 : (from : ℕ) → from + 3 ≤ length xs → field from + 4 * field (from + 1) + 16 * field (from + 2) ≡ control fours (part xs from 3)
   control-3 from h = omega (arith, control-next from 3 (omega arith) h, control-2 (from + 1) (omega arith), later from 1)
 
   pub control-4 : (from : ℕ) → from + 4 ≤ length xs
-      → field from + 4 * field (from + 1) + 16 * field (from + 2) + 64 * field (from + 3) ≡ control (part xs from 4)
+      → field from + 4 * field (from + 1) + 16 * field (from + 2) + 64 * field (from + 3) ≡ control fours (part xs from 4)
   control-4 from h = omega (arith, control-next from 4 (omega arith) h, control-3 (from + 1) (omega arith), later from 1, later from 2)
+
+-- ---- the mask of one to four numbers is what their control byte leaves
+pub mask-is : (xs : List ℕ) (from k m c : ℕ) → from + k ≤ length xs → m ≡ 4 ^ k - 1 → c ≡ control fours (part xs from k)
+    → (c ≤ m) × (m - c ≡ control batches (part xs from k))
+unfolding control
+mask-is xs from k m c inside em ec =
+    let ys = part xs from k in
+    let e = mask-of (map byteLength ys) (lengths-of ys) in
+    let many : length (map byteLength ys) ≡ k = length-map ys byteLength ∙ part-length xs from k inside in
+    let p = ap (λ (n : ℕ). 4 ^ n) many in
+    (omega arith, omega arith)

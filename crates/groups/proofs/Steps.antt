@@ -1,30 +1,27 @@
 -- One group, field by field, and its answer as a unit. Assumes nothing.
-use Prim.Native.Nat.{ℕ, suc, _+_, _-_, _/_, _%_, _^_, _≤_, _<_, min}
+use Prim.Native.Nat.{ℕ, zero, suc, _+_, _-_, _/_, _%_, _^_, _≤_, _<_}
 use mathlib.Core.Path.{_≡_, refl, sym, ap, _∙_}
 use mathlib.Core.Bool.{Bool, true, false}
 use mathlib.Core.List.{List, [], _∷_, _++_, append-assoc, append-nil}
 use native.Mathlib.Nat.{div-one, add-zero, add-assoc, sub-zero}
 use native.Mathlib.Omega.{arith}
 use lib.Dec.{leb, eqb}
-use lib.ListN.{length, getD, take, drop, set, replicate, length-append, length-drop}
+use lib.ListN.{length, take, drop, set, replicate, length-append, length-drop}
 use lib.Seq.{drop-drop, set-at, take-at, drop-at}
-use borrow.Author.Tests.{lt-ltb, le-ltb, le-leb, lt-leb, eq-eqb, ne-eqb}
+use borrow.Author.Tests.{le-leb, lt-leb, eq-eqb, ne-eqb, eqb-true, eqb-false}
 use Rattle.meaning.specs.Answer.{Answer, given, refused, bind, need}
 use Rattle.meaning.specs.Bytes.{numberOf}
 use Rattle.meaning.specs.DataBytes.{byteLength, dataIn}
-use Rattle.meaning.specs.Groups.{lengthsIn, groupIn, groupAt}
+use Rattle.meaning.specs.Groups.{Grouping, groupCount, lengthsIn, groupIn, groupFrom, groupAt}
 use Rattle.meaning.specs.Limits.{fault, unitPlaces}
 use Rattle.meaning.specs.Lists.{sum}
-use Rattle.meaning.specs.Places.{UnitIs}
+use Rattle.meaning.specs.Places.{UnitIs, part}
 use Rattle.meaning.specs.declared.Position.{Position}
 use Rattle.meaning.specs.declared.Unit.the-variants as unit
 use Rattle.meaning.specs.declared.UnitRead.{UnitRead}
-use Rattle.meaning.proofs.Answers.{bind-cong}
-use Rattle.meaning.proofs.Tests.{by-order}
-use Rattle.groups.specs.Layouts.{Layout, unitBy, layoutOf}
-use Rattle.groups.specs.Whole.{groupFrom}
-use Rattle.groups.specs.declared.group.DataAt.{DataAt}
-use Rattle.groups.specs.declared.group.DataAt.the-variants.{Behind, Apart}
+use Rattle.meaning.proofs.Answers.{not-given, bind-given, bind-cong}
+use Rattle.meaning.proofs.Tests.{by-order, by-test}
+use Rattle.groups.specs.Layouts.{Layout, size, unitBy}
 use Rattle.groups.proofs.Controls.{quarter}
 
 -- ---- answers
@@ -58,22 +55,22 @@ leb-after l s n h =
     (λ t. le-leb (l + s) n (omega arith) ∙ sym (le-leb s (n - l) t))
 
 -- ---- a group's first field
-module _ (body : List ℕ) (m c to : ℕ) where
+module _ (g : Grouping) (body : List ℕ) (m c to : ℕ) where
   abbrev others : List ℕ
-  others = lengthsIn m (c / 4)
+  others = lengthsIn g m (c / 4)
 
-  field-cut : length body - to < c % 4 + 1 → groupFrom body (suc m) c to ≡ refused fault
+  field-cut : length body - to < g .bytes (c % 4) → groupFrom g body (suc m) c to ≡ refused fault
   unfolding groupFrom groupIn lengthsIn sum
-  field-cut h = rw (lt-leb (c % 4 + 1 + sum others) (length (drop to body)) (omega (arith, length-drop to body)))
+  field-cut h = rw (lt-leb (g .bytes (c % 4) + sum others) (length (drop to body)) (omega (arith, length-drop to body)))
 
-  module _ (l x : ℕ) (el : l ≡ c % 4 + 1) (ex : x ≡ numberOf (take l (drop to body))) where
-    field-long : (byteLength x ≡ l → ⊥) → groupFrom body (suc m) c to ≡ refused fault
+  module _ (l x : ℕ) (el : l ≡ g .bytes (c % 4)) (ex : x ≡ numberOf (take l (drop to body))) where
+    field-long : (byteLength x ≡ l → ⊥) → groupFrom g body (suc m) c to ≡ refused fault
     unfolding groupFrom groupIn lengthsIn sum dataIn
     field-long h =
         rw (← el, ← ex, ne-eqb (byteLength x) l h)
         (needs-refused (leb (l + sum others) (length (drop to body))) (eqb (c / 4 ^ suc m) 0) (λ xs. given (to + (l + sum others), xs)))
 
-    field-next : l ≤ length body - to → byteLength x ≡ l → groupFrom body (suc m) c to ≡ bind (groupFrom body m (c / 4) (to + l)) (λ t. given (t .0, x ∷ t .1))
+    field-next : l ≤ length body - to → byteLength x ≡ l → groupFrom g body (suc m) c to ≡ bind (groupFrom g body m (c / 4) (to + l)) (λ t. given (t .0, x ∷ t .1))
     unfolding groupFrom groupIn lengthsIn sum dataIn
     field-next fits e =
         let there : leb (l + sum others) (length (drop to body)) ≡ leb (sum others) (length (drop (to + l) body)) =
@@ -83,156 +80,223 @@ module _ (body : List ℕ) (m c to : ℕ) where
         (first-moves (leb (sum others) (length (drop (to + l) body))) (eqb (c / 4 / 4 ^ m) 0) (dataIn others (drop (to + l) body)) x (to + l + sum others))
 
 -- after the last field
-module _ (body : List ℕ) (c to : ℕ) where
-  field-used : (c ≡ 0 → ⊥) → groupFrom body 0 c to ≡ refused fault
+module _ (g : Grouping) (body : List ℕ) (c to : ℕ) where
+  field-used : (c ≡ 0 → ⊥) → groupFrom g body 0 c to ≡ refused fault
   unfolding groupFrom groupIn lengthsIn sum dataIn
   field-used h = rw (le-leb 0 (length (drop to body)) (omega arith), div-one c, ne-eqb c 0 h)
 
-  field-none : c ≡ 0 → groupFrom body 0 c to ≡ given (to, [])
+  field-none : c ≡ 0 → groupFrom g body 0 c to ≡ given (to, [])
   unfolding groupFrom groupIn lengthsIn sum dataIn
   field-none h = rw (le-leb 0 (length (drop to body)) (omega arith), div-one c, eq-eqb c 0 h, add-zero to)
 
 -- ---- field by field
 -- the first numbers of a group have been read as `done`, and the group of the m others, from here on, makes the whole
-pub record So (body : List ℕ) (k c from m control to : ℕ) (done : List ℕ) : Type 0 where
-  pub is : bind (groupFrom body m control to) (λ t. given (t .0, done ++ t .1)) ≡ groupFrom body k c from
+pub record So (g : Grouping) (body : List ℕ) (k c from m control to : ℕ) (done : List ℕ) : Type 0 where
+  pub is : bind (groupFrom g body m control to) (λ t. given (t .0, done ++ t .1)) ≡ groupFrom g body k c from
 
-pub so-start : (body : List ℕ) (k c from : ℕ) → So body k c from k c from []
-so-start body k c from = record { is = bind-same (groupFrom body k c from) }
+pub so-start : (g : Grouping) (body : List ℕ) (k c from : ℕ) → So g body k c from k c from []
+so-start g body k c from = record { is = bind-same (groupFrom g body k c from) }
 
 -- what is left is refused, so the whole is
-so-refused : {body : List ℕ} {k c from m control to : ℕ} {done : List ℕ} → So body k c from m control to done → groupFrom body m control to ≡ refused fault
-    → groupFrom body k c from ≡ refused fault
+so-refused : {g : Grouping} {body : List ℕ} {k c from m control to : ℕ} {done : List ℕ} → So g body k c from m control to done → groupFrom g body m control to ≡ refused fault
+    → groupFrom g body k c from ≡ refused fault
 so-refused {done = done} so e = sym (so .is) ∙ ap (λ (a : Answer (ℕ × List ℕ)). bind a (λ t. given (t .0, done ++ t .1))) e
 
-module _ {body : List ℕ} {k c from m control to : ℕ} {done : List ℕ} where
-  so-cut : So body k c from (suc m) control to done → length body - to < control % 4 + 1 → groupFrom body k c from ≡ refused fault
-  so-cut so h = so-refused so (field-cut body m control to h)
+module _ {g : Grouping} {body : List ℕ} {k c from m control to : ℕ} {done : List ℕ} where
+  so-cut : So g body k c from (suc m) control to done → length body - to < g .bytes (control % 4) → groupFrom g body k c from ≡ refused fault
+  so-cut so h = so-refused so (field-cut g body m control to h)
 
-  module _ {l x : ℕ} (el : l ≡ control % 4 + 1) (ex : x ≡ numberOf (take l (drop to body))) (so : So body k c from (suc m) control to done) where
-    so-long : (byteLength x ≡ l → ⊥) → groupFrom body k c from ≡ refused fault
-    so-long h = so-refused so (field-long body m control to l x el ex h)
+  module _ {l x : ℕ} (el : l ≡ g .bytes (control % 4)) (ex : x ≡ numberOf (take l (drop to body))) (so : So g body k c from (suc m) control to done) where
+    so-long : (byteLength x ≡ l → ⊥) → groupFrom g body k c from ≡ refused fault
+    so-long h = so-refused so (field-long g body m control to l x el ex h)
 
-    pub so-next : l ≤ length body - to → byteLength x ≡ l → So body k c from m (control / 4) (to + l) (done ++ (x ∷ []))
+    pub so-next : l ≤ length body - to → byteLength x ≡ l → So g body k c from m (control / 4) (to + l) (done ++ (x ∷ []))
     so-next fits e =
-        let rest = groupFrom body m (control / 4) (to + l) in
+        let rest = groupFrom g body m (control / 4) (to + l) in
         record {
           is =
               bind-cong rest _ _ (λ t h. ap (λ (xs : List ℕ). given (t .0, xs)) (append-assoc done (x ∷ []) (t .1)))
               ∙ bind-bind rest (λ t. given (t .0, x ∷ t .1)) (λ t. given (t .0, done ++ t .1))
-              ∙ ap (λ (a : Answer (ℕ × List ℕ)). bind a (λ t. given (t .0, done ++ t .1))) (sym (field-next body m control to l x el ex fits e))
+              ∙ ap (λ (a : Answer (ℕ × List ℕ)). bind a (λ t. given (t .0, done ++ t .1))) (sym (field-next g body m control to l x el ex fits e))
               ∙ so .is;
         }
 
-module _ {body : List ℕ} {k c from control to : ℕ} {done : List ℕ} (so : So body k c from 0 control to done) where
+module _ {g : Grouping} {body : List ℕ} {k c from control to : ℕ} {done : List ℕ} (so : So g body k c from 0 control to done) where
   -- an unused field is not 0
-  so-used : (control ≡ 0 → ⊥) → groupFrom body k c from ≡ refused fault
-  so-used h = so-refused so (field-used body control to h)
+  so-used : (control ≡ 0 → ⊥) → groupFrom g body k c from ≡ refused fault
+  so-used h = so-refused so (field-used g body control to h)
 
-  pub so-end : control ≡ 0 → groupFrom body k c from ≡ given (to, done)
+  pub so-end : control ≡ 0 → groupFrom g body k c from ≡ given (to, done)
   so-end h =
       sym (so .is)
-      ∙ ap (λ (a : Answer (ℕ × List ℕ)). bind a (λ t. given (t .0, done ++ t .1))) (field-none body control to h)
+      ∙ ap (λ (a : Answer (ℕ × List ℕ)). bind a (λ t. given (t .0, done ++ t .1))) (field-none g body control to h)
       ∙ ap (λ (xs : List ℕ). given (to, xs)) (append-nil done)
 
+-- ---- many fields at once
+-- a group whose first field was read
+record FieldIs (g : Grouping) (body : List ℕ) (m c to l x r : ℕ) (xs : List ℕ) : Type 0 where
+  pub fits : l ≤ length body - to
+  pub fewest : byteLength x ≡ l
+  pub others : List ℕ
+  pub is : x ∷ others ≡ xs
+  pub rest : groupFrom g body m (c / 4) (to + l) ≡ given (r, others)
+
+field-given : (g : Grouping) (body : List ℕ) (m c to l x r : ℕ) (xs : List ℕ) → l ≡ g .bytes (c % 4) → x ≡ numberOf (take l (drop to body))
+    → groupFrom g body (suc m) c to ≡ given (r, xs) → FieldIs g body m c to l x r xs
+field-given g body m c to l x r xs el ex e =
+    by-order (length body - to) l
+    (λ cut. absurd (not-given fault (r, xs) (sym (field-cut g body m c to (rw el at cut)) ∙ e)))
+    (λ fits. by-test (eqb (byteLength x) l)
+    (λ t. let few = eqb-true (byteLength x) l t in
+    let (t, et, eu) = bind-given (groupFrom g body m (c / 4) (to + l)) _ (r, xs) (sym (field-next g body m c to l x el ex fits few) ∙ e) in
+    let is : (t .0, x ∷ t .1) ≡ (r, xs) = cc in
+    record {
+      fits = fits;
+      fewest = few;
+      others = t .1;
+      is = ap (λ (u : ℕ × List ℕ). u .1) is;
+      rest = et ∙ ap (λ (u : ℕ × List ℕ). given (u .0, t .1)) is;
+    })
+    (λ f. absurd (not-given fault (r, xs) (sym (field-long g body m c to l x el ex (eqb-false (byteLength x) l f)) ∙ e))))
+
+-- no field is left: nothing more was read
+none-given : (g : Grouping) (body : List ℕ) (c to r : ℕ) (xs : List ℕ) → groupFrom g body 0 c to ≡ given (r, xs) → (to ≡ r) × ([] ≡ xs)
+none-given g body c to r xs e =
+    by-test (eqb c 0)
+    (λ t. let is : (to, []) ≡ (r, xs) = cc (field-none g body c to (eqb-true c 0 t)) in
+    (ap (λ (u : ℕ × List ℕ). u .0) is, ap (λ (u : ℕ × List ℕ). u .1) is))
+    (λ f. absurd (not-given fault (r, xs) (sym (field-used g body c to (eqb-false c 0 f)) ∙ e)))
+
+-- j fields at once, which another grouping's say too
+pub so-fields : {g : Grouping} {body : List ℕ} {k c from m : ℕ} (h : Grouping) (j n control fields to r : ℕ) (done xs : List ℕ)
+    → n ≡ j + m → So g body k c from n control to done → groupFrom h body j fields to ≡ given (r, xs)
+    → lengthsIn g j control ≡ lengthsIn h j fields → So g body k c from m (control / 4 ^ j) r (done ++ xs)
+unfolding lengthsIn
+so-fields {m = m} h zero n control fields to r done xs en so e same =
+    let (end, none) = none-given h _ fields to r xs e in
+    let is : n ≡ m = omega arith in
+    rw (← end, ← none, append-nil done, div-one control, ← is) so
+so-fields {g} {body} {m = m} h (suc j) n control fields to r done xs en so e same =
+    let l = g .bytes (control % 4) in
+    let x = numberOf (take l (drop to body)) in
+    let el : l ≡ h .bytes (fields % 4) = cc in
+    let others : lengthsIn g j (control / 4) ≡ lengthsIn h j (fields / 4) = cc in
+    let f = field-given h body j fields to l x r xs el refl e in
+    let is : n ≡ suc (j + m) = omega arith in
+    let so₁ = so-next {l = l} {x = x} refl refl (rw is at so) (f .fits) (f .fewest) in
+    let so₂ = so-fields h j (j + m) (control / 4) (fields / 4) (to + l) r (done ++ (x ∷ [])) (f .others) refl so₁ (f .rest) others in
+    rw (quarter control j, ← (f .is), ← (append-assoc done (x ∷ []) (f .others))) so₂
+
 -- ---- as a unit
-at-none : (body : List ℕ) (left at from : ℕ) → length body ≤ at → groupAt body left at from ≡ refused fault
-unfolding groupAt
-at-none body left at from h = rw (le-ltb at (length body) h)
+-- the fields in the control bytes of the group of k numbers at a position
+abbrev pub fieldsAt : List ℕ → Position → ℕ → ℕ
+fieldsAt body p k = numberOf (part body (p .head .byte) (groupCount k))
 
-pub at-there : (body : List ℕ) (left at from k c : ℕ) → at < length body → k ≡ min 4 left → c ≡ getD body at 0
-    → groupAt body left at from ≡ groupFrom body k c from
-unfolding groupAt groupFrom
-at-there body left at from k c there many byte = rw (lt-ltb at (length body) there, ← many, ← byte)
+module _ (g : Layout) (body : List ℕ) (left : ℕ) (p : Position) where
+  -- its control bytes are there: the unit is the group of their fields
+  pub unit-there : (k c from : ℕ) → groupCount k ≤ length body - p .head .byte → k ≡ size g left → c ≡ fieldsAt body p k → from ≡ g .from (groupCount k) p
+      → unitBy g body left p ≡ bind (groupFrom (g .group) body k c from) (λ t. given (g .next (groupCount k) p (t .0), t .1))
+  unfolding groupAt
+  unit-there k c from h many fields start =
+      let there : groupCount k ≤ length (drop (p .head .byte) body) = rw (← (length-drop (p .head .byte) body)) at h in
+      rw (← many, le-leb (groupCount k) (length (drop (p .head .byte) body)) there, ← fields, ← start)
 
--- every layout of this crate has its control byte at the position's head
-head-is : (d : DataAt) (p : Position) → layoutOf d .head p ≡ p .head .byte
-head-is Behind p = refl
-head-is Apart p = refl
+  same-refusal : {r : UnitRead} → unitBy g body left p ≡ refused fault → UnitIs (refused fault) r → UnitIs (unitBy g body left p) r
+  same-refusal e u = record { told = rw e (u .told); few = u .few; clear = u .clear }
+
+  -- they are not there
+  pub reads-none : {k : ℕ} {r : UnitRead} → k ≡ size g left → length body - p .head .byte < groupCount k → UnitIs (refused fault) r
+      → UnitIs (unitBy g body left p) r
+  unfolding groupAt
+  reads-none {k} many h =
+      let cut : length (drop (p .head .byte) body) < groupCount k = rw (← (length-drop (p .head .byte) body)) at h in
+      same-refusal (rw (← many, lt-leb (groupCount k) (length (drop (p .head .byte) body)) cut))
 
 -- the loop that reads the group at p has read i of its k numbers, which stand in the array
 pub record Reads (g : Layout) (body : List ℕ) (left : ℕ) (p : Position) (k i control to : ℕ) (numbers : List ℕ) : Type 0 where
-  pub there : g .head p < length body
-  pub many : k ≡ min 4 left
+  pub there : groupCount k ≤ length body - p .head .byte
+  pub many : k ≡ size g left
+  pub room : k ≤ unitPlaces
   pub most : i ≤ k
   pub done : List ℕ
   pub counted : length done ≡ i
   pub here : numbers ≡ done ++ replicate {A = ℕ} (unitPlaces - i) 0
-  pub so : So body k (getD body (g .head p) 0) (g .from p) (k - i) control to done
+  pub so : So (g .group) body k (fieldsAt body p k) (g .from (groupCount k) p) (k - i) control to done
 
-unit-refused : (g : Layout) (body : List ℕ) (left : ℕ) (p : Position) {r : UnitRead} → groupAt body left (g .head p) (g .from p) ≡ refused fault
-    → UnitIs (refused fault) r → UnitIs (unitBy g body left p) r
-unit-refused g body left p e u = record { told = rw e (u .told); few = u .few; clear = u .clear }
-
-module _ (d : DataAt) (body : List ℕ) (left : ℕ) (p : Position) where
-  -- the control byte is not there
-  pub reads-none : {r : UnitRead} → length body ≤ p .head .byte → UnitIs (refused fault) r → UnitIs (unitBy (layoutOf d) body left p) r
-  reads-none h = unit-refused (layoutOf d) body left p (at-none body left (layoutOf d .head p) (layoutOf d .from p) (rw (head-is d p) h))
-
-  pub reads-start : {k c from : ℕ} → p .head .byte < length body → k ≡ min 4 left → c ≡ getD body (p .head .byte) 0 → from ≡ layoutOf d .from p
-      → Reads (layoutOf d) body left p k 0 c from (replicate {A = ℕ} unitPlaces 0)
-  reads-start {k} there many byte start =
-      record {
-        there = rw (head-is d p) there;
-        many = many;
-        most = omega arith;
-        done = [];
-        counted = refl;
-        here = refl;
-        so = rw (head-is d p, byte, start, sub-zero k) (so-start body k (getD body (p .head .byte) 0) (layoutOf d .from p));
-      }
+pub reads-start : (g : Layout) (body : List ℕ) (left : ℕ) (p : Position) {k m c from : ℕ} → k ≡ size g left → k ≤ unitPlaces → m ≡ groupCount k
+    → m ≤ length body - p .head .byte → c ≡ numberOf (part body (p .head .byte) m) → from ≡ g .from m p
+    → Reads g body left p k 0 c from (replicate {A = ℕ} unitPlaces 0)
+reads-start g body left p {k} many room em there fields start =
+    record {
+      there = rw em at there;
+      many = many;
+      room = room;
+      most = omega arith;
+      done = [];
+      counted = refl;
+      here = refl;
+      so = rw (fields, start, em, sub-zero k) (so-start (g .group) body k (fieldsAt body p k) (g .from (groupCount k) p));
+    }
 
 module _ {g : Layout} {body : List ℕ} {left : ℕ} {p : Position} where
   module _ {k i control to : ℕ} {numbers : List ℕ} (t : Reads g body left p k i control to numbers) where
     -- the whole is what is read
-    whole : groupAt body left (g .head p) (g .from p) ≡ groupFrom body k (getD body (g .head p) 0) (g .from p)
-    whole = at-there body left (g .head p) (g .from p) k _ (t .there) (t .many) refl
+    whole : unitBy g body left p
+        ≡ bind (groupFrom (g .group) body k (fieldsAt body p k) (g .from (groupCount k) p)) (λ t. given (g .next (groupCount k) p (t .0), t .1))
+    whole = unit-there g body left p k _ _ (t .there) (t .many) refl refl
 
-    more : i < k → So body k (getD body (g .head p) 0) (g .from p) (suc (k - suc i)) control to (t .done)
+    group-refused : {r : UnitRead} → groupFrom (g .group) body k (fieldsAt body p k) (g .from (groupCount k) p) ≡ refused fault
+        → UnitIs (refused fault) r → UnitIs (unitBy g body left p) r
+    group-refused e = same-refusal g body left p (whole ∙ rw e)
+
+    more : i < k → So (g .group) body k (fieldsAt body p k) (g .from (groupCount k) p) (suc (k - suc i)) control to (t .done)
     more h = let m : k - i ≡ suc (k - suc i) = omega arith in rw m at (t .so)
 
-    pub reads-cut : {r : UnitRead} → i < k → length body - to < control % 4 + 1 → UnitIs (refused fault) r → UnitIs (unitBy g body left p) r
-    reads-cut h cut = unit-refused g body left p (whole ∙ so-cut (more h) cut)
+    module _ {l : ℕ} (h : i < k) (el : l ≡ g .group .bytes (control % 4)) where
+      pub reads-cut : {r : UnitRead} → length body - to < l → UnitIs (refused fault) r → UnitIs (unitBy g body left p) r
+      reads-cut cut = group-refused (so-cut (more h) (rw el at cut))
 
-    module _ {l x : ℕ} (h : i < k) (el : l ≡ control % 4 + 1) (ex : x ≡ numberOf (take l (drop to body))) where
-      pub reads-long : {r : UnitRead} → (byteLength x ≡ l → ⊥) → UnitIs (refused fault) r → UnitIs (unitBy g body left p) r
-      reads-long long = unit-refused g body left p (whole ∙ so-long el ex (more h) long)
+      module _ {x : ℕ} (ex : x ≡ numberOf (take l (drop to body))) where
+        pub reads-long : {r : UnitRead} → (byteLength x ≡ l → ⊥) → UnitIs (refused fault) r → UnitIs (unitBy g body left p) r
+        reads-long long = group-refused (so-long el ex (more h) long)
 
-      pub reads-turn : l ≤ length body - to → byteLength x ≡ l → Reads g body left p k (i + 1) (control / 4) (to + l) (set numbers i x)
-      reads-turn fits e =
-          let few : i < 8 = omega (arith, t .many) in
-          let places : unitPlaces - i ≡ suc (unitPlaces - (i + 1)) = omega arith in
-          let here : numbers ≡ t .done ++ (0 ∷ replicate {A = ℕ} (unitPlaces - (i + 1)) 0) =
-          t .here ∙ ap (λ (n : ℕ). t .done ++ replicate {A = ℕ} n 0) places in
-          let m : k - (i + 1) ≡ k - suc i = omega arith in
-          record {
-            there = t .there;
-            many = t .many;
-            most = omega arith;
-            done = t .done ++ (x ∷ []);
-            counted = length-append (t .done) (x ∷ []) ∙ ap (λ (n : ℕ). n + 1) (t .counted);
-            here =
-                ap (λ (ns : List ℕ). set ns i x) here
-                ∙ set-at (t .done) 0 (replicate {A = ℕ} (unitPlaces - (i + 1)) 0) x i (t .counted)
-                ∙ sym (append-assoc (t .done) (x ∷ []) (replicate {A = ℕ} (unitPlaces - (i + 1)) 0));
-            so = rw m (so-next el ex (more h) fits e);
-          }
+        pub reads-turn : l ≤ length body - to → byteLength x ≡ l → Reads g body left p k (i + 1) (control / 4) (to + l) (set numbers i x)
+        reads-turn fits e =
+            let room = t .room in
+            let places : unitPlaces - i ≡ suc (unitPlaces - (i + 1)) = omega arith in
+            let here : numbers ≡ t .done ++ (0 ∷ replicate {A = ℕ} (unitPlaces - (i + 1)) 0) =
+            t .here ∙ ap (λ (n : ℕ). t .done ++ replicate {A = ℕ} n 0) places in
+            let m : k - (i + 1) ≡ k - suc i = omega arith in
+            record {
+              there = t .there;
+              many = t .many;
+              room = t .room;
+              most = omega arith;
+              done = t .done ++ (x ∷ []);
+              counted = length-append (t .done) (x ∷ []) ∙ ap (λ (n : ℕ). n + 1) (t .counted);
+              here =
+                  ap (λ (ns : List ℕ). set ns i x) here
+                  ∙ set-at (t .done) 0 (replicate {A = ℕ} (unitPlaces - (i + 1)) 0) x i (t .counted)
+                  ∙ sym (append-assoc (t .done) (x ∷ []) (replicate {A = ℕ} (unitPlaces - (i + 1)) 0));
+              so = rw m (so-next el ex (more h) fits e);
+            }
 
     module _ (all : k ≤ i) where
-      none : So body k (getD body (g .head p) 0) (g .from p) 0 control to (t .done)
+      none : So (g .group) body k (fieldsAt body p k) (g .from (groupCount k) p) 0 control to (t .done)
       none = let m : k - i ≡ 0 = omega arith in rw m at (t .so)
 
       pub reads-used : {r : UnitRead} → (control ≡ 0 → ⊥) → UnitIs (refused fault) r → UnitIs (unitBy g body left p) r
-      reads-used used = unit-refused g body left p (whole ∙ so-used none used)
+      reads-used used = group-refused (so-used none used)
 
-      pub reads-end : {q : Position} → control ≡ 0 → q ≡ g .next p to → UnitIs (unitBy g body left p) (record { unit = unit.Next q k; numbers = numbers })
-      reads-end last next =
+      pub reads-end : {q : Position} {m : ℕ} → control ≡ 0 → m ≡ groupCount k → q ≡ g .next m p to
+          → UnitIs (unitBy g body left p) (record { unit = unit.Next q k; numbers = numbers })
+      reads-end last em next =
           let is : k ≡ i = omega (arith, t .most) in
           let many : length (t .done) ≡ k = t .counted ∙ sym is in
           let zeros = replicate {A = ℕ} (unitPlaces - i) 0 in
           let taken : take k numbers ≡ t .done = ap (take k) (t .here) ∙ take-at (t .done) zeros k many in
           record {
-            told = rw (whole ∙ so-end none last, next, taken);
-            few = omega (arith, t .many);
+            told = rw (whole, so-end none last, next, em, taken);
+            few = t .room;
             clear = ap (drop k) (t .here) ∙ drop-at (t .done) zeros k many ∙ rw is;
           }

@@ -1,6 +1,7 @@
-// One group read with all its rules, wherever its control byte and its data stand in a body.
+// One group read with all its rules, wherever its control bytes and its data stand in a body.
+use leaves::from_byte;
 use leaves::lesser;
-use leaves::wide;
+use leaves::whole;
 use meaning::Bit;
 use meaning::FAULT;
 use meaning::Offset;
@@ -10,17 +11,42 @@ use meaning::UnitRead;
 use words::byte_length;
 use words::number_at;
 ghost use mathlib.Core.Path.{_≡_};
-ghost use Prim.Native.Nat.{_<_, _≤_, _-_};
+ghost use Prim.Native.Nat.{_<_, _≤_, _+_, _-_, _^_};
 ghost use lib.ListN.{length};
 ghost use Rattle.meaning.specs.Answer.{refused};
-ghost use Rattle.meaning.specs.Limits.{mostBytes, fault};
-ghost use Rattle.meaning.specs.Places.{UnitIs};
+ghost use Rattle.meaning.specs.Bytes.{numberOf};
+ghost use Rattle.meaning.specs.Limits.{mostBytes, fault, unitPlaces};
+ghost use Rattle.meaning.specs.Places.{UnitIs, part};
 ghost use Rattle.groups.specs.Layouts.{layoutOf, unitBy};
 
-// Where a group's data stands: behind its control byte, or apart from it, after all control bytes.
-pub enum DataAt {
-    Behind,
-    Apart,
+// The codes of groups: a group's data stands behind its control bytes (2, and 7 with batches of 16), or apart from them, after all control bytes (4).
+pub enum Form {
+    Fours,
+    Stream,
+    Batches,
+}
+
+// How many numbers a full group has.
+fn most_of(form: Form) -> usize
+    ensures { λ r. ⌜ (r ≡ layoutOf form .group .most) × (r ≤ unitPlaces) ⌝ }
+{
+    match form {
+        Form::Fours => 4,
+        Form::Stream => 4,
+        Form::Batches => 16,
+    }
+}
+
+// How many bytes a field says.
+fn length_of(form: Form, field: usize) -> usize
+    requires { ⌜ field < 4 ⌝ }
+    ensures { λ r. ⌜ (r ≡ layoutOf form .group .bytes field) × (1 ≤ r) × (r ≤ 4) ⌝ }
+{
+    match form {
+        Form::Fours => field + 1,
+        Form::Stream => field + 1,
+        Form::Batches => 4 - field,
+    }
 }
 
 // How many bytes there are from an offset on.
@@ -33,49 +59,53 @@ pub fn bytes_from(len: usize, from: Offset) -> usize
     len - from.byte
 }
 
-// Where the data of the group at a position begins.
-fn data_of(at: Position, data_at: DataAt) -> Offset
-    requires { ⌜ at .head .byte < mostBytes ⌝ }
-    ensures { λ r. ⌜ r .byte ≡ layoutOf data_at .from at ⌝ }
+// The fields in so many control bytes.
+fn fields_at(body: &[u8], at: Offset, bytes: usize) -> usize
+    requires { ⌜ (bytes ≤ 4) × (bytes ≤ length (now body) - at .byte) ⌝ }
+    ensures { λ r. ⌜ r ≡ numberOf (part (now (body .entry)) (at .byte) bytes) ⌝ }
+{
+    if bytes == 0 {
+        return 0;
+    }
+    whole(number_at(body, at, bytes))
+}
+
+// Where the data of the group at a position begins, which has so many control bytes.
+fn data_of(at: Position, form: Form, bytes: usize) -> Offset
+    requires { ⌜ at .head .byte + bytes < 2 ^ 64 ⌝ }
+    ensures { λ r. ⌜ r .byte ≡ layoutOf form .from bytes at ⌝ }
 {
     let head = at.head;
-    match data_at {
-        DataAt::Behind => {
-            let behind = head.byte + 1;
-            Offset { byte: behind }
-        }
-        DataAt::Apart => at.tail,
+    let behind = head.byte + bytes;
+    match form {
+        Form::Fours => Offset { byte: behind },
+        Form::Stream => at.tail,
+        Form::Batches => Offset { byte: behind },
     }
 }
 
 // Where the next group is, when the data of the one at a position ends at an offset.
-fn next_of(at: Position, data_at: DataAt, end: Offset) -> Position
-    requires { ⌜ at .head .byte < mostBytes ⌝ }
-    ensures { λ r. ⌜ r ≡ layoutOf data_at .next at (end .byte) ⌝ }
+fn next_of(at: Position, form: Form, bytes: usize, end: Offset) -> Position
+    requires { ⌜ at .head .byte + bytes < 2 ^ 64 ⌝ }
+    ensures { λ r. ⌜ r ≡ layoutOf form .next bytes at (end .byte) ⌝ }
 {
     let head = at.head;
-    let bit = Bit { index: 0 };
-    match data_at {
-        DataAt::Behind => Position {
-            head: end,
-            tail: Offset { byte: 0 },
-            bit,
+    let control = head.byte + bytes;
+    match form {
+        Form::Fours => from_byte(end),
+        Form::Stream => Position {
+            head: Offset { byte: control },
+            tail: end,
+            bit: Bit { index: 0 },
         },
-        DataAt::Apart => {
-            let control = head.byte + 1;
-            Position {
-                head: Offset { byte: control },
-                tail: end,
-                bit,
-            }
-        }
+        Form::Batches => from_byte(end),
     }
 }
 
 fn faulty() -> UnitRead
     ensures { λ r. ⌜ UnitIs (refused fault) r ⌝ }
 {
-    let numbers = [0u32; 8];
+    let numbers = [0u32; 16];
     UnitRead {
         unit: Unit::Refused(FAULT),
         numbers,
@@ -83,23 +113,23 @@ fn faulty() -> UnitRead
 }
 
 // The group at a position, where so many numbers are still to come. A field that is not used is not read: it must be 0.
-pub fn group_at(body: &[u8], left: usize, at: Position, data_at: DataAt) -> UnitRead
+pub fn group_at(body: &[u8], left: usize, at: Position, form: Form) -> UnitRead
     requires { ⌜ length (now body) ≤ mostBytes ⌝ }
-    ensures { λ r. ⌜ UnitIs (unitBy (layoutOf data_at) (now (body .entry)) left at) r ⌝ }
+    ensures { λ r. ⌜ UnitIs (unitBy (layoutOf form) (now (body .entry)) left at) r ⌝ }
 {
     let head = at.head;
-    let here = head.byte;
-    if body.len() <= here {
+    let count = lesser(most_of(form), left);
+    let bytes = (count + 3) / 4;
+    if bytes_from(body.len(), head) < bytes {
         return faulty();
     }
-    let count = lesser(4, left);
-    let start = data_of(at, data_at);
-    let mut control = wide(body[here]) as usize;
+    let start = data_of(at, form, bytes);
+    let mut control = fields_at(body, head, bytes);
     let mut to = start.byte;
-    let mut numbers = [0u32; 8];
+    let mut numbers = [0u32; 16];
     let mut i: usize = 0;
     while i < count {
-        let len = control % 4 + 1;
+        let len = length_of(form, control % 4);
         if bytes_from(body.len(), Offset { byte: to }) < len {
             return faulty();
         }
@@ -115,7 +145,7 @@ pub fn group_at(body: &[u8], left: usize, at: Position, data_at: DataAt) -> Unit
     if control != 0 {
         return faulty();
     }
-    let next = next_of(at, data_at, Offset { byte: to });
+    let next = next_of(at, form, bytes, Offset { byte: to });
     UnitRead {
         unit: Unit::Next(next, count),
         numbers,

@@ -1,4 +1,5 @@
 // Control bytes and data put into an output.
+use crate::group::Form;
 use leaves::lesser;
 use leaves::put;
 use meaning::Offset;
@@ -9,8 +10,9 @@ ghost use mathlib.Core.Path.{_≡_};
 ghost use Prim.Native.Nat.{_+_, _-_, _*_, _<_, _≤_, _^_};
 ghost use lib.ListN.{length};
 ghost use Rattle.meaning.specs.DataBytes.{byteLength};
-ghost use Rattle.meaning.specs.Groups.{control};
+ghost use Rattle.meaning.specs.Groups.{fours, batches, control};
 ghost use Rattle.meaning.specs.Places.{Wrote, part};
+ghost use Rattle.groups.specs.Layouts.{layoutOf};
 ghost use Rattle.groups.specs.Parts.{controlsOf, dataOf};
 
 // What a number's field says: its length minus one.
@@ -23,7 +25,7 @@ fn field_of(x: u32) -> usize
 // The control byte of k numbers, at most four, from a place on.
 pub fn control_of(list: &[u32], from: Place, k: usize) -> u8
     requires { ⌜ (k ≤ 4) × (from .number + k ≤ length (now list)) ⌝ }
-    ensures { λ r. ⌜ r ≡ control (part (now (list .entry)) (from .number) k) ⌝ }
+    ensures { λ r. ⌜ r ≡ control fours (part (now (list .entry)) (from .number) k) ⌝ }
 {
     let first = from.number;
     if k == 0 {
@@ -45,10 +47,44 @@ pub fn control_of(list: &[u32], from: Place, k: usize) -> u8
     d as u8
 }
 
+// The mask of k numbers, at most four, from a place on: a field is 3 less the one of the control byte.
+fn mask_of(list: &[u32], from: Place, k: usize) -> u8
+    requires { ⌜ (k ≤ 4) × (from .number + k ≤ length (now list)) ⌝ }
+    ensures { λ r. ⌜ r ≡ control batches (part (now (list .entry)) (from .number) k) ⌝ }
+{
+    let c = control_of(list, from, k);
+    match k {
+        0 => 0,
+        1 => 3 - c,
+        2 => 15 - c,
+        3 => 63 - c,
+        _ => 255 - c,
+    }
+}
+
+// The control byte of k numbers, at most four, from a place on, as a code has it.
+fn control_by(form: Form, list: &[u32], from: Place, k: usize) -> u8
+    requires { ⌜ (k ≤ 4) × (from .number + k ≤ length (now list)) ⌝ }
+    ensures { λ r. ⌜ r ≡ control (layoutOf form .group) (part (now (list .entry)) (from .number) k) ⌝ }
+{
+    match form {
+        Form::Fours => control_of(list, from, k),
+        Form::Stream => control_of(list, from, k),
+        Form::Batches => mask_of(list, from, k),
+    }
+}
+
 // Puts the control bytes of n numbers from a place on, and answers the offset after them.
-pub fn put_controls(list: &[u32], from: Place, n: usize, out: &mut [u8], at: Offset) -> Offset
+pub fn put_controls(
+    form: Form,
+    list: &[u32],
+    from: Place,
+    n: usize,
+    out: &mut [u8],
+    at: Offset,
+) -> Offset
     requires { ⌜ (from .number + n ≤ length (now list)) × (at .byte + n < 2 ^ 63) ⌝ }
-    ensures { λ r. ⌜ Wrote (controlsOf (now (list .entry)) (from .number) n) (at .byte) (now (out .entry)) (now (out .exit)) r ⌝ }
+    ensures { λ r. ⌜ Wrote (controlsOf (layoutOf form .group) (now (list .entry)) (from .number) n) (at .byte) (now (out .entry)) (now (out .exit)) r ⌝ }
 {
     let first = from.number;
     let mut to = at.byte;
@@ -59,7 +95,7 @@ pub fn put_controls(list: &[u32], from: Place, n: usize, out: &mut [u8], at: Off
         put(
             out,
             Offset { byte: to },
-            control_of(list, Place { number: place }, k),
+            control_by(form, list, Place { number: place }, k),
         );
         to += 1;
         i += k;

@@ -1,8 +1,11 @@
-// Whole groups of four, taken where 16 bytes of data are there: each number is one load of four bytes. Nothing is refused here: at anything else the
-// loop stops.
+// Whole groups, taken four numbers at a time where 16 bytes of data are there: each number is one load of four bytes. Nothing is refused here: at
+// anything else the loop stops.
 use crate::group::bytes_from;
+use leaves::from_byte;
+use leaves::lay;
 use leaves::lesser;
 use leaves::taken;
+use leaves::whole;
 use leaves::wide;
 use meaning::Bit;
 use meaning::Offset;
@@ -14,9 +17,9 @@ ghost use mathlib.Core.Path.{_≡_};
 ghost use Prim.Native.Nat.{_+_, _<_, _≤_};
 ghost use lib.ListN.{length, take, drop};
 ghost use Rattle.meaning.specs.Bytes.{numberOf};
-ghost use Rattle.meaning.specs.Codes.{codeGroups, codeStream};
+ghost use Rattle.meaning.specs.Codes.{codeGroups, codeStream, codeBatches};
 ghost use Rattle.meaning.specs.Places.{Target, Took};
-ghost use Rattle.groups.specs.Whole.{largestNumbers, Room, GroupTaken};
+ghost use Rattle.groups.specs.Whole.{largestNumbers, Room, GroupTaken, Places, BatchTaken};
 
 // The largest number of one, two, three and four bytes. A loop lends a copy: a constant would be stored anew at each use.
 const LARGEST: [u32; 4] = [255, 65535, 16777215, 4294967295];
@@ -186,4 +189,83 @@ pub fn take_stream(
         bit: Bit { index: 0 },
     };
     taken(at, 4 * units, units, 0, next)
+}
+
+// The 16 numbers of the batch at an offset are put into as many places. Answers where their data ends, or 0 where the batch is not plain: then the places
+// may hold anything.
+fn take_batch(
+    body: &[u8],
+    at: Offset,
+    largest: &[u32; 4],
+    least: &[u32; 4],
+    places: &mut [u32],
+) -> Offset
+    requires { ⌜ Places (now largest) (now least) (now places) ⌝ }
+    ensures { λ r. ⌜ BatchTaken (now (body .entry)) (at .byte) (now (places .exit)) (r .byte) ⌝ }
+{
+    let start = at.byte;
+    let plain = bytes_from(body.len(), Offset { byte: 15 });
+    if plain <= start {
+        return Offset { byte: 0 };
+    }
+    let mut masks = whole(word_at(body, at));
+    let mut to = start + 4;
+    let mut i: usize = 0;
+    while i < 4 {
+        if plain <= to {
+            return Offset { byte: 0 };
+        }
+        let c = 255 - masks % 256;
+        let number = 4 * i;
+        let end = take_whole(
+            body,
+            c,
+            Offset { byte: to },
+            largest,
+            least,
+            places,
+            Place { number },
+        );
+        if end.byte == 0 {
+            return end;
+        }
+        to = end.byte;
+        masks = masks / 256;
+        i += 1;
+    }
+    Offset { byte: to }
+}
+
+// Code 7: takes whole batches from a position on into work, as far as they are plain and there is room for them.
+pub fn take_batches(
+    body: &[u8],
+    left: usize,
+    at: Position,
+    work: &mut [u32],
+    from: Place,
+    room: usize,
+) -> Taken
+    requires { ⌜ Target (now body) (now work) (from .number) room ⌝ }
+    ensures { λ r. ⌜ Took codeBatches (now (body .entry)) left at room (from .number) (now (work .entry)) (now (work .exit)) r ⌝ }
+{
+    let head = at.head;
+    let first = from.number;
+    let largest = LARGEST;
+    let least = LEAST;
+    let mut batch = [0u32; 16];
+    let mut limit = lesser(left, room) / 16;
+    let mut units: usize = 0;
+    let mut to = head.byte;
+    while units < limit {
+        let end = take_batch(body, Offset { byte: to }, &largest, &least, &mut batch);
+        if end.byte == 0 {
+            limit = 0;
+            continue;
+        }
+        let number = first + 16 * units;
+        lay(work, Place { number }, batch, 16);
+        to = end.byte;
+        units += 1;
+    }
+    taken(at, 16 * units, units, 0, from_byte(Offset { byte: to }))
 }

@@ -7,7 +7,7 @@ use native.Mathlib.Omega.{arith}
 use lib.Dec.{leb, eqb}
 use lib.ListN.{length, getD, List·getD-eq-default}
 use borrow.Author.Tests.{le-leb, lt-leb, ne-eqb}
-use Rattle.meaning.specs.Codes.{isCode}
+use Rattle.meaning.specs.Codes.{lastCode, isCode}
 use Rattle.meaning.specs.Plan.{planSize, planAt}
 use Rattle.meaning.specs.declared.Offset.{Offset}
 use Rattle.judge.specs.Stage.{stageAt}
@@ -17,7 +17,7 @@ pub code-low : (b : ℕ) → b < 1 → false ≡ isCode b
 unfolding isCode
 code-low b h = rw (lt-leb 1 b h)
 
-pub code-test : (b : ℕ) → 1 ≤ b → leb b 6 ≡ isCode b
+pub code-test : (b : ℕ) → 1 ≤ b → leb b lastCode ≡ isCode b
 unfolding isCode
 code-test b h = rw (le-leb 1 b h)
 

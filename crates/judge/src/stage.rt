@@ -1,4 +1,5 @@
 // The plan's bytes: what stands at an offset, and where the plan there ends.
+use meaning::LAST_CODE;
 use meaning::Offset;
 ghost use mathlib.Core.Path.{_≡_};
 ghost use Prim.Native.Nat.{_+_};
@@ -21,7 +22,7 @@ fn is_code(b: u8) -> bool
     if b < 1 {
         return false;
     }
-    b <= 6
+    b <= LAST_CODE
 }
 
 // Any offset may be asked for: past the end nothing stands.

@@ -60,7 +60,7 @@ pub fn passes_plan(plan: &[u8], at: Offset, stages: usize, kind: u8) -> bool
     }
 }
 
-// Codes 2 and 4: a control byte for every four numbers.
+// Codes 2, 4 and 7: a control byte for every four numbers.
 fn worst_groups(n: usize) -> usize
     requires { ⌜ n ≤ mostNumbers ⌝ }
     ensures { λ r. ⌜ r ≡ worstGroups n ⌝ }
@@ -79,7 +79,8 @@ pub fn worst_code(code: u8, n: usize) -> usize
         3 => (n + 1) / 2 * 9,
         4 => worst_groups(n),
         5 => (65 * n + 7) / 8,
-        _ => (43 * n + 7) / 8,
+        6 => (43 * n + 7) / 8,
+        _ => worst_groups(n),
     }
 }
 

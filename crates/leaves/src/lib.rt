@@ -1,12 +1,15 @@
 // Small functions that several crates share.
 use meaning::Bit;
 use meaning::Offset;
+use meaning::Place;
 use meaning::Position;
 use meaning::Taken;
 use meaning::Unit;
 ghost use mathlib.Core.Path.{_≡_};
-ghost use Prim.Native.Nat.{_<_, _^_, min};
-ghost use lib.ListN.{set};
+ghost use Prim.Native.Nat.{_<_, _≤_, _+_, _^_, min};
+ghost use lib.ListN.{length, set, take};
+ghost use lib.Seq.{sets};
+ghost use Rattle.meaning.specs.Limits.{unitPlaces};
 ghost use Rattle.meaning.specs.Places.{Ends};
 ghost use Rattle.meaning.specs.Positions.{atByte};
 ghost use Rattle.meaning.specs.Says.{unitRefusal};
@@ -65,6 +68,19 @@ pub fn put(out: &mut [u8], at: Offset, b: u8)
     let here = at.byte;
     if here < out.len() {
         out[here] = b;
+    }
+}
+
+// A unit's first k numbers go to work from a place on.
+pub fn lay(work: &mut [u32], from: Place, numbers: [u32; 16], k: usize)
+    requires { ⌜ (k ≤ unitPlaces) × (from .number + k ≤ length (now work)) ⌝ }
+    ensures { λ _. ⌜ now (work .exit) ≡ sets (now (work .entry)) (from .number) (take k numbers) ⌝ }
+{
+    let first = from.number;
+    let mut i: usize = 0;
+    while i < k {
+        work[first + i] = numbers[i];
+        i += 1;
     }
 }
 

@@ -7,7 +7,8 @@ use Rattle.meaning.specs.Elias.{gammaBits, deltaBits, writeGamma, writeD
 use Rattle.meaning.specs.DataBytes.{byteLength, fewest, dataBytes, dataIn}
 use Rattle.meaning.specs.G8IU.{fits, blocksFrom, blocks, bitsLow, numberLow, endBits, blockControl, block, writeG8IU}
 use Rattle.meaning.specs.G8IU.{lengthsBy, blockLengths, blockIn, unitG8IU, joinsG8IU}
-use Rattle.meaning.specs.Groups.{fours, groupCount, controlOf, lengthsIn, control, writeGroups, writeStream, groupIn, groupAt, unitGroups, unitStream}
+use Rattle.meaning.specs.Groups.{piecesFrom, pieces, groupCount, controlOf, lengthsIn, control, controls, writeGroups, writeStream}
+use Rattle.meaning.specs.Groups.{groupIn, groupFrom, groupAt, unitGroups, unitStream}
 use Rattle.meaning.specs.Lists.{all, sum, largest, joined, neighbours, rises, differ}
 use Rattle.meaning.specs.Operations.{listedBy, ordersHold, writeListed, writeSheet, ordersOf, writeApart}
 use Rattle.meaning.specs.Operations.{check, column, readSheet, lookSheet, fetch, openReader, callOver, call, numbersAt}
@@ -31,7 +32,7 @@ unfolding
     byteLength fewest dataBytes dataIn
     fits blocksFrom blocks bitsLow numberLow endBits blockControl block writeG8IU
     lengthsBy blockLengths blockIn unitG8IU joinsG8IU
-    fours groupCount controlOf lengthsIn control writeGroups writeStream groupIn groupAt unitGroups unitStream
+    piecesFrom pieces groupCount controlOf lengthsIn control controls writeGroups writeStream groupIn groupFrom groupAt unitGroups unitStream
     all sum largest joined neighbours rises differ
     listedBy ordersHold writeListed writeSheet ordersOf writeApart
     check column readSheet lookSheet fetch openReader callOver call numbersAt

@@ -1,4 +1,4 @@
--- Document 01's marked examples that are to be proved of the meaning, and the listing that it prints: each closes by computation. Assumes nothing.
+-- The marked examples of document 01 and of request P1 that are to be proved of the meaning, and the listing that document 01 prints: each closes by computation. Assumes nothing.
 use mathlib.Core.Path.{_≡_, refl}
 use mathlib.Core.List.{[], _∷_, _++_}
 use lib.ListN.{replicate}
@@ -28,6 +28,26 @@ groups : write (code 2) (1024 ∷ 12 ∷ 10 ∷ 1073741824 ∷ 1 ∷ 2 ∷ 3 ∷
     ≡ 0xc1 ∷ 0x00 ∷ 0x04 ∷ 0x0c ∷ 0x0a ∷ 0x00 ∷ 0x00 ∷ 0x00 ∷ 0x40 ∷ 0x40 ∷ 0x01 ∷ 0x02 ∷ 0x03 ∷ 0x00 ∷ 0x04 ∷ []
 unfolding meaning
 groups = refl
+
+-- request P1's: a full mask and a second, one zero, and a batch of 16 with a 17th number behind it
+batches-001 : write (code 7) (1024 ∷ 12 ∷ 10 ∷ 1073741824 ∷ 1 ∷ 2 ∷ 3 ∷ 1024 ∷ [])
+    ≡ 0x3e ∷ 0xbf ∷ 0x00 ∷ 0x04 ∷ 0x0c ∷ 0x0a ∷ 0x00 ∷ 0x00 ∷ 0x00 ∷ 0x40 ∷ 0x01 ∷ 0x02 ∷ 0x03 ∷ 0x00 ∷ 0x04 ∷ []
+unfolding meaning
+batches-001 = refl
+
+batches-zero : write (code 7) (0 ∷ []) ≡ 0x03 ∷ 0x00 ∷ []
+unfolding meaning
+batches-zero = refl
+
+batches-17 : write (code 7) (0 ∷ 1 ∷ 2 ∷ 3 ∷ 4 ∷ 5 ∷ 6 ∷ 7 ∷ 8 ∷ 9 ∷ 10 ∷ 11 ∷ 12 ∷ 13 ∷ 14 ∷ 15 ∷ 16 ∷ [])
+    ≡ 0xff ∷ 0xff ∷ 0xff ∷ 0xff ∷ 0x00 ∷ 0x01 ∷ 0x02 ∷ 0x03 ∷ 0x04 ∷ 0x05 ∷ 0x06 ∷ 0x07 ∷ 0x08 ∷ 0x09 ∷ 0x0a ∷ 0x0b ∷ 0x0c ∷ 0x0d ∷ 0x0e ∷ 0x0f
+    ∷ 0x03 ∷ 0x10 ∷ []
+unfolding meaning
+batches-17 = refl
+
+batches-empty : write (code 7) [] ≡ []
+unfolding meaning
+batches-empty = refl
 
 g8iu : write (code 3) (1 ∷ 2 ∷ 3 ∷ 1024 ∷ []) ≡ 0xe8 ∷ 0x01 ∷ 0x02 ∷ 0x03 ∷ 0x00 ∷ 0x04 ∷ 0x00 ∷ 0x00 ∷ 0x00 ∷ []
 unfolding meaning

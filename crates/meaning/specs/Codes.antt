@@ -1,4 +1,4 @@
--- The six codes, each as what it takes to write a list, to read units and to tell the worst size. Strict reading and lookup are the same for all.
+-- The seven codes, each as what it takes to write a list, to read units and to tell the worst size. Strict reading and lookup are the same for all.
 use Prim.Native.Nat.{ℕ, _+_, _*_, _/_}
 use mathlib.Core.Bool.{Bool, true, _&&_, cond}
 use mathlib.Core.List.{List, []}
@@ -10,7 +10,7 @@ use Rattle.meaning.specs.Lists.{joined}
 use Rattle.meaning.specs.Positions.{atByte, atControl, atBit}
 use Rattle.meaning.specs.Units.{readUnits, lookUnits}
 use Rattle.meaning.specs.VByte.{vbyte, unitVByte}
-use Rattle.meaning.specs.Groups.{groupCount, writeGroups, writeStream, unitGroups, unitStream}
+use Rattle.meaning.specs.Groups.{Grouping, fours, batches, groupCount, writeGroups, writeStream, unitGroups, unitStream}
 use Rattle.meaning.specs.G8IU.{writeG8IU, unitG8IU, joinsG8IU}
 use Rattle.meaning.specs.Elias.{writeGamma, writeDelta, gammaWord, deltaWord, unitElias, doneElias}
 use Rattle.meaning.specs.declared.Position.{Position}
@@ -41,13 +41,20 @@ abbrev pub codeVByte : Code
 codeVByte =
     record { write = joined vbyte; worst = λ n. 5 * n; start = fromFirst; unit = unitVByte; joins = always; done = toLast }
 
--- codes 2 and 4: 4n plus n/4 rounded up
+-- codes 2, 4 and 7: 4n plus n/4 rounded up
 abbrev pub worstGroups : ℕ → ℕ
 worstGroups n = 4 * n + groupCount n
 
+-- codes 2 and 7: groups one behind the other
+abbrev pub codeBy : Grouping → Code
+codeBy g =
+    record { write = writeGroups g; worst = worstGroups; start = fromFirst; unit = unitGroups g; joins = always; done = toLast }
+
 abbrev pub codeGroups : Code
-codeGroups =
-    record { write = writeGroups; worst = worstGroups; start = fromFirst; unit = unitGroups; joins = always; done = toLast }
+codeGroups = codeBy fours
+
+abbrev pub codeBatches : Code
+codeBatches = codeBy batches
 
 -- n/2 rounded up, then times 9
 abbrev pub codeG8IU : Code
@@ -89,9 +96,12 @@ codeDelta =
       done = doneElias;
     }
 
--- 1 VByte, 2 group of four, 3 G8IU, 4 Stream VByte, 5 gamma, 6 delta
+-- 1 VByte, 2 group of four, 3 G8IU, 4 Stream VByte, 5 gamma, 6 delta, 7 four-wise null suppression
+abbrev pub lastCode : ℕ
+lastCode = 7
+
 unfoldable pub isCode : ℕ → Bool
-isCode c = leb 1 c && leb c 6
+isCode c = leb 1 c && leb c lastCode
 
 unfoldable pub codeOf : ℕ → Code
 codeOf c =
@@ -99,7 +109,8 @@ codeOf c =
     (cond (eqb c 2) codeGroups
     (cond (eqb c 3) codeG8IU
     (cond (eqb c 4) codeStream
-    (cond (eqb c 5) codeGamma codeDelta))))
+    (cond (eqb c 5) codeGamma
+    (cond (eqb c 6) codeDelta codeBatches)))))
 
 -- the strict reading of n numbers from a body
 unfoldable pub readCode : Code → List ℕ → ℕ → Answer (List ℕ)

@@ -1,65 +1,94 @@
--- Group of four: a control byte, then 1 to 4 bytes a number. Field i, the length minus one, is bits 2i and 2i+1.
--- Unused fields of the last group are 0 and have no data. Unit: a group.
+-- Groups: a number has a field of two bits that says how long it is, and 1 to 4 bytes of data. Four fields stand in a control byte, the first number's
+-- in the lowest bits. Unused fields of a group's last control byte are 0 and have no data.
+-- Group of four: a control byte, then its data. Unit: a group.
 -- Stream VByte: the same groups, all control bytes first, then all data.
+-- Four-wise null suppression: up to four control bytes, there called masks, stand together, then their up to 16 numbers. Unit: such a batch.
 use Prim.Native.Nat.{ℕ, zero, suc, _+_, _-_, _*_, _/_, _%_, _^_, min}
 use mathlib.Core.List.{List, [], _∷_, _++_, map}
-use lib.Dec.{leb, ltb, eqb}
-use lib.ListN.{length, getD, drop}
+use lib.Dec.{leb, eqb}
+use lib.ListN.{length, take, drop}
 use Rattle.meaning.specs.Answer.{Answer, given, bind, need}
+use Rattle.meaning.specs.Bytes.{numberOf}
 use Rattle.meaning.specs.Limits.{fault}
 use Rattle.meaning.specs.Lists.{sum, joined}
 use Rattle.meaning.specs.DataBytes.{byteLength, dataBytes, dataIn}
 use Rattle.meaning.specs.Positions.{atByte, atControl}
 use Rattle.meaning.specs.declared.Position.{Position}
 
--- a list in groups of four, the last of what is left
-unfoldable pub fours : List ℕ → List (List ℕ)
-fours [] = []
-fours (a ∷ []) = (a ∷ []) ∷ []
-fours (a ∷ b ∷ []) = (a ∷ b ∷ []) ∷ []
-fours (a ∷ b ∷ c ∷ []) = (a ∷ b ∷ c ∷ []) ∷ []
-fours (a ∷ b ∷ c ∷ d ∷ xs) = (a ∷ b ∷ c ∷ d ∷ []) ∷ fours xs
+-- how a code groups: how many numbers a full group has, the field of a number of so many bytes, and how many bytes a field says
+pub record Grouping : Type 0 where
+  pub most : ℕ
+  pub field : ℕ → ℕ
+  pub bytes : ℕ → ℕ
 
--- how many groups n numbers make
+-- group of four and Stream VByte: a field is the length minus one
+abbrev pub fours : Grouping
+fours = record { most = 4; field = λ l. l - 1; bytes = λ f. f + 1 }
+
+-- four-wise null suppression: a field is the number of leading zero bytes, of four
+abbrev pub batches : Grouping
+batches = record { most = 16; field = λ l. 4 - l; bytes = λ f. 4 - f }
+
+-- a list in pieces of so many numbers, the last of what is left. Every piece holds a number, so there are no more pieces than numbers: the first
+-- argument of `piecesFrom` counts them down
+unfoldable pub piecesFrom : ℕ → ℕ → List ℕ → List (List ℕ)
+piecesFrom zero most xs = []
+piecesFrom (suc n) most [] = []
+piecesFrom (suc n) most (x ∷ xs) = take most (x ∷ xs) ∷ piecesFrom n most (drop most (x ∷ xs))
+
+unfoldable pub pieces : ℕ → List ℕ → List (List ℕ)
+pieces most xs = piecesFrom (length xs) most xs
+
+-- how many control bytes n numbers have: n/4, rounded up
 unfoldable pub groupCount : ℕ → ℕ
 groupCount n = (n + 3) / 4
 
--- the control byte of fields of these lengths
-unfoldable pub controlOf : List ℕ → ℕ
-controlOf [] = 0
-controlOf (l ∷ ls) = l - 1 + 4 * controlOf ls
+-- the fields of numbers of these lengths, as one number
+unfoldable pub controlOf : Grouping → List ℕ → ℕ
+controlOf g [] = 0
+controlOf g (l ∷ ls) = g .field l + 4 * controlOf g ls
 
--- the lengths in the first k fields of a control byte
-unfoldable pub lengthsIn : ℕ → ℕ → List ℕ
-lengthsIn zero c = []
-lengthsIn (suc k) c = (c % 4 + 1) ∷ lengthsIn k (c / 4)
+-- the lengths that the first k fields say
+unfoldable pub lengthsIn : Grouping → ℕ → ℕ → List ℕ
+lengthsIn g zero c = []
+lengthsIn g (suc k) c = g .bytes (c % 4) ∷ lengthsIn g k (c / 4)
 
-unfoldable pub control : List ℕ → ℕ
-control group = controlOf (map byteLength group)
+unfoldable pub control : Grouping → List ℕ → ℕ
+control g xs = controlOf g (map byteLength xs)
 
-unfoldable pub writeGroups : List ℕ → List ℕ
-writeGroups xs = joined (λ group. control group ∷ dataBytes group) (fours xs)
+-- the control bytes of a list, one for every four numbers
+unfoldable pub controls : Grouping → List ℕ → List ℕ
+controls g xs = map (control g) (pieces 4 xs)
+
+unfoldable pub writeGroups : Grouping → List ℕ → List ℕ
+writeGroups g xs = joined (λ group. controls g group ++ dataBytes group) (pieces (g .most) xs)
 
 unfoldable pub writeStream : List ℕ → List ℕ
-writeStream xs = map control (fours xs) ++ dataBytes xs
+writeStream xs = controls fours xs ++ dataBytes xs
 
--- the k numbers of a group, by its control byte c and the bytes from its data on: the data is there, unused fields are 0, lengths are the fewest
-unfoldable pub groupIn : ℕ → ℕ → List ℕ → Answer (List ℕ)
-groupIn k c bytes =
-    need (leb (sum (lengthsIn k c)) (length bytes)) fault
-    (need (eqb (c / 4 ^ k) 0) fault (dataIn (lengthsIn k c) bytes))
+-- the k numbers of a group, by its fields c and the bytes from its data on: the data is there, unused fields are 0, lengths are the fewest
+unfoldable pub groupIn : Grouping → ℕ → ℕ → List ℕ → Answer (List ℕ)
+groupIn g k c bytes =
+    need (leb (sum (lengthsIn g k c)) (length bytes)) fault
+    (need (eqb (c / 4 ^ k) 0) fault (dataIn (lengthsIn g k c) bytes))
 
--- a group whose control byte stands at one offset and whose data begins at another: its numbers, and where its data ends
-unfoldable pub groupAt : List ℕ → ℕ → ℕ → ℕ → Answer (ℕ × List ℕ)
-groupAt body left at from =
-    need (ltb at (length body)) fault
-    (bind (groupIn (min 4 left) (getD body at 0) (drop from body)) (λ xs.
-    given (from + sum (lengthsIn (min 4 left) (getD body at 0)), xs)))
+-- the same where the data begins at an offset of a body: where it ends, and the numbers
+unfoldable pub groupFrom : Grouping → List ℕ → ℕ → ℕ → ℕ → Answer (ℕ × List ℕ)
+groupFrom g body k c from = bind (groupIn g k c (drop from body)) (λ xs. given (from + sum (lengthsIn g k c), xs))
 
-unfoldable pub unitGroups : List ℕ → ℕ → Position → Answer (Position × List ℕ)
-unitGroups body left p =
-    bind (groupAt body left (p .head .byte) (p .head .byte + 1)) (λ t. given (atByte (t .0), t .1))
+-- the same where the control bytes stand at another offset: they are there, and least significant first they are the fields
+unfoldable pub groupAt : Grouping → List ℕ → ℕ → ℕ → ℕ → Answer (ℕ × List ℕ)
+groupAt g body k at from =
+    need (leb (groupCount k) (length (drop at body))) fault (groupFrom g body k (numberOf (take (groupCount k) (drop at body))) from)
 
+-- a unit is a full group, or what is left: its control bytes, and its data behind them
+unfoldable pub unitGroups : Grouping → List ℕ → ℕ → Position → Answer (Position × List ℕ)
+unitGroups g body left p =
+    bind (groupAt g body (min (g .most) left) (p .head .byte) (p .head .byte + groupCount (min (g .most) left))) (λ t.
+    given (atByte (t .0), t .1))
+
+-- control bytes and data apart
 unfoldable pub unitStream : List ℕ → ℕ → Position → Answer (Position × List ℕ)
 unitStream body left p =
-    bind (groupAt body left (p .head .byte) (p .tail .byte)) (λ t. given (atControl (p .head .byte + 1) (t .0), t .1))
+    bind (groupAt fours body (min 4 left) (p .head .byte) (p .tail .byte)) (λ t.
+    given (atControl (p .head .byte + groupCount (min 4 left)) (t .0), t .1))

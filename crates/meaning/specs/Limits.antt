@@ -23,7 +23,7 @@ mostStages = 3
 
 -- no unit of any code holds more numbers
 abbrev pub unitPlaces : ℕ
-unitPlaces = 8
+unitPlaces = 16
 
 -- kind 0 is any, kind 1 is rising
 abbrev pub any : ℕ

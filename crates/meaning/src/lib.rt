@@ -10,6 +10,9 @@ pub const MOST_BYTES: usize = 65536;
 // A plan is so many bytes.
 pub const PLAN_BYTES: usize = 15;
 
+// Codes are numbered from 1 to this.
+pub const LAST_CODE: u8 = 7;
+
 // The kinds: any numbers, or none below the one before.
 pub const ANY: u8 = 0;
 
@@ -78,7 +81,7 @@ pub enum Unit {
 // A unit's answer with its numbers beside it, from the array's first place on; the places after them are 0.
 pub struct UnitRead {
     pub unit: Unit,
-    pub numbers: [u32; 8],
+    pub numbers: [u32; 16],
 }
 
 // Units taken one after the other: how many numbers they hold, how many units they are, and where the next unit begins. A next unit may follow them

@@ -171,7 +171,7 @@ pub fn unit(body: &[u8], left: usize, at: Position) -> UnitRead
     requires { ⌜ length (now body) ≤ mostBytes ⌝ }
     ensures { λ r. ⌜ UnitIs (codeVByte .unit (now (body .entry)) left at) r ⌝ }
 {
-    let mut numbers = [0u32; 8];
+    let mut numbers = [0u32; 16];
     let r = number_at(body, at.head);
     match r {
         Number::Read(x, next) => {

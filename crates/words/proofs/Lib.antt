@@ -1,4 +1,4 @@
--- Laws of numbers in bytes, which codes 2, 3 and 4 share.
+-- Laws of numbers in bytes, which codes 2, 3, 4 and 7 share.
 pub mod Bytes
 pub mod DataBytes
 pub mod Straight

@@ -4,6 +4,7 @@ use mathlib.Core.Path.{_≡_}
 use native.Mathlib.Omega.{arith}
 use lib.ListN.{length}
 use borrow.Author.Needs.{needs}
+use Rattle.meaning.specs.Limits.{unitPlaces}
 use Rattle.g8iu.proofs.Spares.{fresh, UsedSo, used-start, used-most, used-turn, used-end}
 use Rattle.g8iu.proofs.spare_after.Statement.{statement}
 use Rattle.g8iu.proofs.spare_after.Tie as tie
@@ -24,7 +25,7 @@ returns c = rw (c .if1 .taken) fresh
 loop-holds : tie.Need-loop-holds Inv-loop μ-loop
 loop-holds c =
     let start : At tie.Start = search in
-    let eight : length (start .args .t1) ≡ 8 = search needs in
+    let long : length (start .args .t1) ≡ unitPlaces = search needs in
     used-start (omega arith) (start .pre)
 
 add-used : tie.Need-add-used Inv-loop μ-loop

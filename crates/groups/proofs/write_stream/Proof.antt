@@ -1,6 +1,6 @@
 -- All control bytes, and then all data. Assumes nothing.
 use native.Mathlib.Omega.{arith}
-use Rattle.meaning.specs.Groups.{writeStream}
+use Rattle.meaning.specs.Groups.{fours, writeStream}
 use Rattle.leaves.proofs.Putting.{wrote-after}
 use Rattle.groups.proofs.Puts.{controls-bound}
 use borrow.Author.Needs.{needs}
@@ -12,7 +12,7 @@ put-data-requires c κs =
     let controls : tie.After-put-controls = search in
     let start : tie.Start = search in
     let a = start .args in
-    let bound = controls-bound (a .list .now) (a .from .number) (a .n) (start .pre .inside) in
+    let bound = controls-bound (a .list .now) (a .from .number) (a .n) (start .pre .inside) fours in
     (start .pre .inside, omega (arith, controls .put-controls .ensures, start .pre .short))
 
 returns : tie.Need-returns

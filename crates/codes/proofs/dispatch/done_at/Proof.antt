@@ -1,12 +1,8 @@
 -- Each arm is its code's end. Assumes nothing.
-use Rattle.codes.proofs.Numbered.{code-1, code-2, code-3, code-4, done-other}
-use mathlib.Core.Path.{sym, _∙_}
+use Rattle.codes.proofs.Numbered.{code-1, code-2, code-3, code-4, code-5, code-6, code-7}
 use borrow.Author.Needs.{needs}
 use Rattle.codes.proofs.dispatch.done_at.Statement.{statement}
 use Rattle.codes.proofs.dispatch.done_at.Tie as tie
-
-done-requires : tie.Need-done-requires
-done-requires c κs = search needs
 
 returns : tie.Need-returns
 returns c =
@@ -30,9 +26,30 @@ returns-4 c =
 
 returns-5 : tie.Need-returns-5
 returns-5 c =
+    let arm : tie.At-match-keys5 = search in
+    rw (code-5 _ (arm .match .keys5)) (c .done .ensures)
+
+returns-6 : tie.Need-returns-6
+returns-6 c =
+    let arm : tie.At-match-keys6 = search in
+    rw (code-6 _ (arm .match .keys6)) (c .done2 .ensures)
+
+returns-7 : tie.Need-returns-7
+returns-7 c =
     let arm : tie.At-match-rest = search in
     let r = arm .match .rest in
-    c .done .ensures ∙ sym (done-other _ _ _ (r .0 .0 .0 .1) (r .0 .0 .1) (r .0 .1) (r .1))
+    rw (code-7 _ (r .0 .0 .0 .0 .0 .1) (r .0 .0 .0 .0 .1) (r .0 .0 .0 .1) (r .0 .0 .1) (r .0 .1) (r .1))
 
 pub done-at-spec : {M : Type 1} → statement M
-done-at-spec = tie.close (tie.spec done-requires returns returns-2 returns-3 returns-4 returns-5)
+done-at-spec =
+    tie.close
+    (tie.spec
+    (λ c κs. search needs)  -- done-requires
+    (λ c κs. search needs)  -- done-requires-2
+    returns
+    returns-2
+    returns-3
+    returns-4
+    returns-5
+    returns-6
+    returns-7)

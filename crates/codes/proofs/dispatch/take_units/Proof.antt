@@ -1,10 +1,8 @@
 -- Each arm is its code's taking. Assumes nothing.
-use Rattle.codes.proofs.Numbered.{code-1, code-2, code-3, code-4, code-5, code-6}
+use Rattle.codes.proofs.Numbered.{code-1, code-2, code-3, code-4, code-5, code-6, code-7}
 use borrow.Author.Needs.{needs}
 use Rattle.codes.proofs.dispatch.take_units.Statement.{statement}
 use Rattle.codes.proofs.dispatch.take_units.Tie as tie
-
--- Each arm is its code's taking. Assumes nothing.
 
 returns : tie.Need-returns
 returns c =
@@ -38,10 +36,16 @@ returns-5 c =
 
 returns-6 : tie.Need-returns-6
 returns-6 c =
-    let arm : tie.At-match-rest = search in
+    let arm : tie.At-match-keys6 = search in
     let took : tie.After-take-delta = search in
+    rw (code-6 _ (arm .match .keys6)) (took .take-delta .ensures)
+
+returns-7 : tie.Need-returns-7
+returns-7 c =
+    let arm : tie.At-match-rest = search in
+    let took : tie.After-take-batches = search in
     let r = arm .match .rest in
-    rw (code-6 _ (r .0 .0 .0 .0 .1) (r .0 .0 .0 .1) (r .0 .0 .1) (r .0 .1) (r .1)) (took .take-delta .ensures)
+    rw (code-7 _ (r .0 .0 .0 .0 .0 .1) (r .0 .0 .0 .0 .1) (r .0 .0 .0 .1) (r .0 .0 .1) (r .0 .1) (r .1)) (took .take-batches .ensures)
 
 pub take-units-spec : {M : Type 1} → statement M
 take-units-spec =
@@ -53,6 +57,7 @@ take-units-spec =
     (λ c κs. search needs)  -- take-stream-requires
     (λ c κs. search needs)  -- take-gamma-requires
     (λ c κs. search needs)  -- take-delta-requires
+    (λ c κs. search needs)  -- take-batches-requires
     (λ c. search needs)  -- same-length
     returns
     (λ c. search needs)  -- same-length-2
@@ -64,4 +69,6 @@ take-units-spec =
     (λ c. search needs)  -- same-length-5
     returns-5
     (λ c. search needs)  -- same-length-6
-    returns-6)
+    returns-6
+    (λ c. search needs)  -- same-length-7
+    returns-7)

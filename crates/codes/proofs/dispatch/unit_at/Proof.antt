@@ -1,4 +1,4 @@
-use Rattle.codes.proofs.Numbered.{code-1, code-2, code-3, code-4, code-5, code-6}
+use Rattle.codes.proofs.Numbered.{code-1, code-2, code-3, code-4, code-5, code-6, code-7}
 use borrow.Author.Needs.{needs}
 use Rattle.codes.proofs.dispatch.unit_at.Statement.{statement}
 use Rattle.codes.proofs.dispatch.unit_at.Tie as tie
@@ -25,8 +25,12 @@ returns-5 c =
 
 returns-6 : tie.Need-returns-6
 returns-6 c =
+    let m = c .before .match in rw (code-6 _ (m .keys6)) (c .unit-delta .ensures)
+
+returns-7 : tie.Need-returns-7
+returns-7 c =
     let r = c .before .match .rest in
-    rw (code-6 _ (r .0 .0 .0 .0 .1) (r .0 .0 .0 .1) (r .0 .0 .1) (r .0 .1) (r .1)) (c .unit-delta .ensures)
+    rw (code-7 _ (r .0 .0 .0 .0 .0 .1) (r .0 .0 .0 .0 .1) (r .0 .0 .0 .1) (r .0 .0 .1) (r .0 .1) (r .1)) (c .unit-batches .ensures)
 
 pub unit-at-spec : {M : Type 1} → statement M
 unit-at-spec =
@@ -38,9 +42,11 @@ unit-at-spec =
     (λ c κs. search needs)  -- unit-stream-requires
     (λ c κs. search needs)  -- unit-gamma-requires
     (λ c κs. search needs)  -- unit-delta-requires
+    (λ c κs. search needs)  -- unit-batches-requires
     returns
     returns-2
     returns-3
     returns-4
     returns-5
-    returns-6)
+    returns-6
+    returns-7)

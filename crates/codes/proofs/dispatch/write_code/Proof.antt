@@ -1,4 +1,4 @@
-use Rattle.codes.proofs.Numbered.{code-1, code-2, code-3, code-4, code-5, code-6}
+use Rattle.codes.proofs.Numbered.{code-1, code-2, code-3, code-4, code-5, code-6, code-7}
 use borrow.Author.Needs.{needs}
 use Rattle.codes.proofs.dispatch.write_code.Statement.{statement}
 use Rattle.codes.proofs.dispatch.write_code.Tie as tie
@@ -25,8 +25,12 @@ returns-5 c =
 
 returns-6 : tie.Need-returns-6
 returns-6 c =
+    let m = c .before .before .before .before .match in rw (code-6 _ (m .keys6)) (c .before .before .write-delta .ensures)
+
+returns-7 : tie.Need-returns-7
+returns-7 c =
     let r = c .before .before .before .before .match .rest in
-    rw (code-6 _ (r .0 .0 .0 .0 .1) (r .0 .0 .0 .1) (r .0 .0 .1) (r .0 .1) (r .1)) (c .before .before .write-delta .ensures)
+    rw (code-7 _ (r .0 .0 .0 .0 .0 .1) (r .0 .0 .0 .0 .1) (r .0 .0 .0 .1) (r .0 .0 .1) (r .0 .1) (r .1)) (c .before .before .write-batches .ensures)
 
 pub write-code-spec : {M : Type 1} → statement M
 write-code-spec =
@@ -38,6 +42,7 @@ write-code-spec =
     (λ c κs. search needs)  -- write-stream-requires
     (λ c κs. search needs)  -- write-gamma-requires
     (λ c κs. search needs)  -- write-delta-requires
+    (λ c κs. search needs)  -- write-batches-requires
     (λ c. search needs)  -- same-length
     returns
     (λ c. search needs)  -- same-length-2
@@ -49,4 +54,6 @@ write-code-spec =
     (λ c. search needs)  -- same-length-5
     returns-5
     (λ c. search needs)  -- same-length-6
-    returns-6)
+    returns-6
+    (λ c. search needs)  -- same-length-7
+    returns-7)

@@ -4,6 +4,7 @@ use mathlib.Core.Path.{_≡_, sym, ap, _∙_}
 use native.Mathlib.Omega.{arith}
 use lib.ListN.{length}
 use Rattle.meaning.specs.Answer.{refused}
+use Rattle.meaning.specs.Limits.{unitPlaces}
 use Rattle.codes.proofs.Numbered.{laws}
 use Rattle.codes.proofs.Stretches.{passed-taken, kept-none, passed-one, unit-refused, unit-few}
 use borrow.Author.Needs.{needs}
@@ -40,8 +41,8 @@ spare-after-requires c κs =
     unit-few (read .unit-at .ensures) (told .unit .given .1)
 
 -- the array that a unit comes with
-eight : (c : tie.After-numbers) → length (c .before .before .before .before .unit-at .result .numbers) ≡ 8
-eight c = search needs
+all-places : (c : tie.After-numbers) → length (c .before .before .before .before .unit-at .result .numbers) ≡ unitPlaces
+all-places c = search needs
 
 returns-3 : tie.Need-returns-3
 returns-3 c before t =
@@ -56,7 +57,7 @@ returns-3 c before t =
     record {
       says =
           passed-one (laws (start .args .code)) (λ i. known .shared-slice-known .given i .fits) (start .pre .1) (read .unit-at .ensures) (told .unit .given .1)
-          (eight numbers) (least .lesser .ensures) (kept-none t (none .if1 .left)) (laid .lay .ensures) (c .spare-after .ensures);
+          (all-places numbers) (least .lesser .ensures) (kept-none t (none .if1 .left)) (laid .lay .ensures) (c .spare-after .ensures);
     }
 
 pub or-unit-spec : {M : Type 1} → statement M

@@ -8,12 +8,24 @@ returns c =
     let told : tie.After-enum-told = search in
     rw (told .enum-told .given .1)
 
+returns-2 : tie.Need-returns-2
+returns-2 c =
+    let told : tie.After-enum-told2 = search in
+    rw (told .enum-told2 .given .1)
+
+returns-3 : tie.Need-returns-3
+returns-3 c =
+    let told : tie.After-enum-told3 = search in
+    rw (told .enum-told3 .given .1)
+
 pub data-of-spec : {M : Type 1} → statement M
 data-of-spec =
     tie.close
     (tie.spec
-    (λ c. search needs)  -- enum-told
     (λ c. search needs)  -- add-behind
+    (λ c. search needs)  -- enum-told
     (λ c. search needs)  -- enum-told-2
+    (λ c. search needs)  -- enum-told-3
     returns
-    (λ c. search needs))  -- returns-2
+    returns-2
+    returns-3)

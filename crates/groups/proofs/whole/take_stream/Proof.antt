@@ -1,12 +1,13 @@
 -- A whole group that was taken is one turn (`TakesWhole`); at anything else the loop stops. Data before its control byte is not taken. Assumes nothing.
 use Prim.Native.Nat.{_-_}
-use mathlib.Core.Path.{refl}
+use mathlib.Core.Path.{refl, _∙_}
 use native.Mathlib.Omega.{arith}
 use Rattle.meaning.specs.Codes.{codeStream}
+use Rattle.meaning.specs.Groups.{groupCount}
 use Rattle.meaning.specs.Positions.{atControl}
 use Rattle.groups.specs.Layouts.{apart}
 use Rattle.groups.specs.Whole.{largestNumbers, leastNumbers}
-use Rattle.groups.proofs.Taking.{TakesWhole, stream-by, whole-start, whole-stop, whole-room, takes-whole, whole-end, whole-none}
+use Rattle.groups.proofs.Taking.{TakesWhole, stream-by, four-at, whole-start, whole-stop, whole-inside, takes-whole, whole-end, whole-none}
 use borrow.Author.Needs.{needs}
 use Rattle.groups.proofs.whole.take_stream.Statement.{statement}
 use Rattle.groups.proofs.whole.take_stream.Tie as tie
@@ -27,10 +28,11 @@ returns : tie.Need-returns Inv-loop μ-loop
 returns c = whole-none stream-by (c .taken .ensures)
 
 loop-holds : tie.Need-loop-holds Inv-loop μ-loop
+unfolding groupCount
 loop-holds c =
     let start : At tie.Start = search in
     let most : At tie.After-lesser = search in
-    whole-start stream-by refl (most .lesser .ensures) (start .pre .inside) (λ k. refl) (c .if1 .left)
+    whole-start stream-by (omega (arith, most .lesser .ensures)) (start .pre .inside) (λ k. refl) (c .if1 .left)
 
 loop-again : tie.Need-loop-again Inv-loop μ-loop
 loop-again c =
@@ -38,12 +40,13 @@ loop-again c =
     whole-stop stream-by (turn .before .loop .inv) refl
 
 take-whole-requires : tie.Need-take-whole-requires Inv-loop μ-loop
-unfolding largestNumbers leastNumbers
+unfolding largestNumbers leastNumbers groupCount
 take-whole-requires c κs =
     let byte : At tie.After-wide = search in
     let turn : At tie.In-loop = search in
     let measured : At tie.After-bytes-from = search in
-    whole-room stream-by (turn .before .loop .inv) (turn .loop-test .taken) (byte .wide .ensures .1) (omega arith) refl refl
+    let inside = whole-inside stream-by (turn .before .loop .inv) (turn .loop-test .taken) in
+    record { byte = byte .wide .ensures .1; there = omega arith; inside = inside; largest-is = refl; least-is = refl }
 
 loop-again-2 : tie.Need-loop-again-2 Inv-loop μ-loop
 loop-again-2 c =
@@ -52,13 +55,16 @@ loop-again-2 c =
     whole-stop stream-by (turn .before .loop .inv) (group .take-whole .ensures .left (c .if3 .taken))
 
 loop-again-3 : tie.Need-loop-again-3 Inv-loop μ-loop
+unfolding groupCount
 loop-again-3 c =
     let group : At tie.After-take-whole = search in
     let byte : At tie.After-wide = search in
     let turn : At tie.In-loop = search in
     let measured : At tie.After-bytes-from = search in
-    takes-whole stream-by (turn .before .loop .inv) (turn .loop-test .taken) (omega arith) (byte .wide .ensures .0)
-    (group .take-whole .ensures .taken (c .if3 .left))
+    let start : At tie.Start = search in
+    let stands = group .take-whole .ensures .taken (c .if3 .left) in
+    let is = four-at (start .args .body .now) _ _ _ (omega arith) (byte .wide .ensures .0) ∙ stands .are in
+    takes-whole stream-by (turn .before .loop .inv) (stands .numbers) (turn .loop-test .taken) is (stands .four) (stands .after) (stands .here)
 
 returns-2 : tie.Need-returns-2 Inv-loop μ-loop
 returns-2 c =

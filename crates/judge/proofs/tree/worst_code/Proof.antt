@@ -28,9 +28,13 @@ unfolding codeOf
 returns-5 c = sym (ap (λ (k : ℕ). codeOf k .worst (c .before .args .n)) (c .match .keys5))
 
 returns-6 : tie.Need-returns-6
-returns-6 c =
-    let r = c .match .rest in
-    worst-else _ _ (r .0 .0 .0 .0 .1) (r .0 .0 .0 .1) (r .0 .0 .1) (r .0 .1) (r .1)
+unfolding codeOf
+returns-6 c = sym (ap (λ (k : ℕ). codeOf k .worst (c .before .args .n)) (c .match .keys6))
+
+returns-7 : tie.Need-returns-7
+returns-7 c =
+    let r = c .before .match .rest in
+    c .worst-groups3 .ensures ∙ worst-else _ _ (r .0 .0 .0 .0 .0 .1) (r .0 .0 .0 .0 .1) (r .0 .0 .0 .1) (r .0 .0 .1) (r .0 .1) (r .1)
 
 pub worst-code-spec : {M : Type 1} → statement M
 worst-code-spec =
@@ -45,9 +49,11 @@ worst-code-spec =
     (λ c. search needs)  -- add-result-2
     (λ c. search needs)  -- mul-result-4
     (λ c. search needs)  -- add-result-3
+    (λ c κs. search needs)  -- worst-groups-requires-3
     returns
     returns-2
     returns-3
     returns-4
     returns-5
-    returns-6)
+    returns-6
+    returns-7)
