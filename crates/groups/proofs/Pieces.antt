@@ -128,12 +128,13 @@ module _ {g : Grouping} (by : Fields g) where
       (λ xs h ih. rw (controls-next g xs h)
       (below-cons 256 (control g (take 4 xs)) (controls g (drop 4 xs)) (control-byte by (take 4 xs) (omega (arith, length-take 4 xs))) ih))
 
+  -- those of a list are its fields as one number, in so many bytes
+  pub controls-bytes : (xs : List ℕ) → bytesOf (groupCount (length xs)) (control g xs) ≡ controls g xs
+  controls-bytes xs = ap₂ bytesOf (sym (controls-count g xs)) (sym (controls-number g xs)) ∙ bytes-number (controls g xs) (controls-small xs)
+
   -- bytes that are the fields of a list as one number are its control bytes
   pub controls-back : (bs xs : List ℕ) → Below 256 bs → length bs ≡ groupCount (length xs) → numberOf bs ≡ control g xs → bs ≡ controls g xs
-  controls-back bs xs low many is =
-      sym (bytes-number bs low)
-      ∙ ap₂ bytesOf (many ∙ sym (controls-count g xs)) (is ∙ sym (controls-number g xs))
-      ∙ bytes-number (controls g xs) (controls-small xs)
+  controls-back bs xs low many is = sym (bytes-number bs low) ∙ ap₂ bytesOf many is ∙ controls-bytes xs
 
   -- ---- what is written, group by group
   pub groups-next : (xs : List ℕ) → 0 < length xs

@@ -70,7 +70,8 @@ module _ (g : Grouping) (body : List ℕ) (m c to : ℕ) where
         rw (← el, ← ex, ne-eqb (byteLength x) l h)
         (needs-refused (leb (l + sum others) (length (drop to body))) (eqb (c / 4 ^ suc m) 0) (λ xs. given (to + (l + sum others), xs)))
 
-    field-next : l ≤ length body - to → byteLength x ≡ l → groupFrom g body (suc m) c to ≡ bind (groupFrom g body m (c / 4) (to + l)) (λ t. given (t .0, x ∷ t .1))
+    field-next : l ≤ length body - to → byteLength x ≡ l
+        → groupFrom g body (suc m) c to ≡ bind (groupFrom g body m (c / 4) (to + l)) (λ t. given (t .0, x ∷ t .1))
     unfolding groupFrom groupIn lengthsIn sum dataIn
     field-next fits e =
         let there : leb (l + sum others) (length (drop to body)) ≡ leb (sum others) (length (drop (to + l) body)) =
@@ -98,8 +99,8 @@ pub so-start : (g : Grouping) (body : List ℕ) (k c from : ℕ) → So g body k
 so-start g body k c from = record { is = bind-same (groupFrom g body k c from) }
 
 -- what is left is refused, so the whole is
-so-refused : {g : Grouping} {body : List ℕ} {k c from m control to : ℕ} {done : List ℕ} → So g body k c from m control to done → groupFrom g body m control to ≡ refused fault
-    → groupFrom g body k c from ≡ refused fault
+so-refused : {g : Grouping} {body : List ℕ} {k c from m control to : ℕ} {done : List ℕ} → So g body k c from m control to done
+    → groupFrom g body m control to ≡ refused fault → groupFrom g body k c from ≡ refused fault
 so-refused {done = done} so e = sym (so .is) ∙ ap (λ (a : Answer (ℕ × List ℕ)). bind a (λ t. given (t .0, done ++ t .1))) e
 
 module _ {g : Grouping} {body : List ℕ} {k c from m control to : ℕ} {done : List ℕ} where

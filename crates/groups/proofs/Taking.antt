@@ -116,8 +116,8 @@ pub record TakesBatch (body : List ℕ) (at : ℕ) (w₀ w : List ℕ) (i masks 
   pub after : at + 4 + i ≤ to
   pub so : So batches body 16 (wordAt body at) (at + 4) (16 - 4 * i) masks to done
 
-pub batch-start : {body : List ℕ} {at masks to : ℕ} {w₀ : List ℕ} → Below 256 body → length w₀ ≡ 16 → at + 4 ≤ length body → masks ≡ wordAt body at → to ≡ at + 4
-    → TakesBatch body at w₀ w₀ 0 masks to
+pub batch-start : {body : List ℕ} {at masks to : ℕ} {w₀ : List ℕ} → Below 256 body → length w₀ ≡ 16 → at + 4 ≤ length body → masks ≡ wordAt body at
+    → to ≡ at + 4 → TakesBatch body at w₀ w₀ 0 masks to
 unfolding wordAt
 batch-start {body} {at} small sixteen there em et =
     record {

@@ -27,7 +27,7 @@ pub enum Form {
 }
 
 // How many numbers a full group has.
-fn most_of(form: Form) -> usize
+pub fn most_of(form: Form) -> usize
     ensures { λ r. ⌜ (r ≡ layoutOf form .group .most) × (r ≤ unitPlaces) ⌝ }
 {
     match form {

@@ -9,11 +9,13 @@ use words::put_fewest;
 ghost use mathlib.Core.Path.{_≡_};
 ghost use Prim.Native.Nat.{_+_, _-_, _*_, _<_, _≤_, _^_};
 ghost use lib.ListN.{length};
+ghost use lib.Seq.{sets};
+ghost use Rattle.meaning.specs.Bytes.{bytesOf};
 ghost use Rattle.meaning.specs.DataBytes.{byteLength};
-ghost use Rattle.meaning.specs.Groups.{fours, batches, control};
+ghost use Rattle.meaning.specs.Groups.{fours, control};
+ghost use Rattle.meaning.specs.Limits.{unitPlaces};
 ghost use Rattle.meaning.specs.Places.{Wrote, part};
-ghost use Rattle.groups.specs.Layouts.{layoutOf};
-ghost use Rattle.groups.specs.Parts.{controlsOf, dataOf};
+ghost use Rattle.groups.specs.Parts.{controlsOf, dataOf, fieldsBy, Laid};
 
 // What a number's field says: its length minus one.
 fn field_of(x: u32) -> usize
@@ -47,44 +49,10 @@ pub fn control_of(list: &[u32], from: Place, k: usize) -> u8
     d as u8
 }
 
-// The mask of k numbers, at most four, from a place on: a field is 3 less the one of the control byte.
-fn mask_of(list: &[u32], from: Place, k: usize) -> u8
-    requires { ⌜ (k ≤ 4) × (from .number + k ≤ length (now list)) ⌝ }
-    ensures { λ r. ⌜ r ≡ control batches (part (now (list .entry)) (from .number) k) ⌝ }
-{
-    let c = control_of(list, from, k);
-    match k {
-        0 => 0,
-        1 => 3 - c,
-        2 => 15 - c,
-        3 => 63 - c,
-        _ => 255 - c,
-    }
-}
-
-// The control byte of k numbers, at most four, from a place on, as a code has it.
-fn control_by(form: Form, list: &[u32], from: Place, k: usize) -> u8
-    requires { ⌜ (k ≤ 4) × (from .number + k ≤ length (now list)) ⌝ }
-    ensures { λ r. ⌜ r ≡ control (layoutOf form .group) (part (now (list .entry)) (from .number) k) ⌝ }
-{
-    match form {
-        Form::Fours => control_of(list, from, k),
-        Form::Stream => control_of(list, from, k),
-        Form::Batches => mask_of(list, from, k),
-    }
-}
-
 // Puts the control bytes of n numbers from a place on, and answers the offset after them.
-pub fn put_controls(
-    form: Form,
-    list: &[u32],
-    from: Place,
-    n: usize,
-    out: &mut [u8],
-    at: Offset,
-) -> Offset
+pub fn put_controls(list: &[u32], from: Place, n: usize, out: &mut [u8], at: Offset) -> Offset
     requires { ⌜ (from .number + n ≤ length (now list)) × (at .byte + n < 2 ^ 63) ⌝ }
-    ensures { λ r. ⌜ Wrote (controlsOf (layoutOf form .group) (now (list .entry)) (from .number) n) (at .byte) (now (out .entry)) (now (out .exit)) r ⌝ }
+    ensures { λ r. ⌜ Wrote (controlsOf fours (now (list .entry)) (from .number) n) (at .byte) (now (out .entry)) (now (out .exit)) r ⌝ }
 {
     let first = from.number;
     let mut to = at.byte;
@@ -95,7 +63,7 @@ pub fn put_controls(
         put(
             out,
             Offset { byte: to },
-            control_by(form, list, Place { number: place }, k),
+            control_of(list, Place { number: place }, k),
         );
         to += 1;
         i += k;
@@ -116,4 +84,63 @@ pub fn put_data(list: &[u32], from: Place, n: usize, out: &mut [u8], at: Offset)
         i += 1;
     }
     to
+}
+
+// Where a group's data ends, its fields as codes 2 and 4 have them, and where the next field would begin.
+pub struct Fielded {
+    pub end: Offset,
+    pub fields: usize,
+    pub scale: usize,
+}
+
+// Puts the data of k numbers from a place on, and answers also their fields: a length is how far its number's data goes.
+pub fn put_fielded(list: &[u32], from: Place, k: usize, out: &mut [u8], at: Offset) -> Fielded
+    requires { ⌜ (k ≤ unitPlaces) × (from .number + k ≤ length (now list)) × (at .byte + 4 * k < 2 ^ 63) ⌝ }
+    ensures { λ r. ⌜ Laid (part (now (list .entry)) (from .number) k) (at .byte) (now (out .entry)) (now (out .exit)) r ⌝ }
+{
+    let first = from.number;
+    let mut to = at;
+    let mut fields: usize = 0;
+    let mut scale: usize = 1;
+    let mut i: usize = 0;
+    while i < k {
+        let end = put_fewest(out, to, list[first + i]);
+        let field = end.byte - to.byte - 1;
+        fields += scale * field;
+        scale = scale * 4;
+        to = end;
+        i += 1;
+    }
+    Fielded {
+        end: to,
+        fields,
+        scale,
+    }
+}
+
+// The fields as a code has them: in code 7 each is 3 less.
+pub fn fields_by(form: Form, fields: usize, scale: usize) -> usize
+    requires { ⌜ fields < scale ⌝ }
+    ensures { λ r. ⌜ r ≡ fieldsBy form fields scale ⌝ }
+{
+    match form {
+        Form::Fours => fields,
+        Form::Stream => fields,
+        Form::Batches => scale - 1 - fields,
+    }
+}
+
+// Puts a number in so many bytes.
+pub fn put_number(out: &mut [u8], at: Offset, x: usize, bytes: usize)
+    requires { ⌜ at .byte + bytes < 2 ^ 64 ⌝ }
+    ensures { λ _. ⌜ now (out .exit) ≡ sets (now (out .entry)) (at .byte) (bytesOf bytes x) ⌝ }
+{
+    let first = at.byte;
+    let mut rest = x;
+    let mut i: usize = 0;
+    while i < bytes {
+        put(out, Offset { byte: first + i }, (rest % 256) as u8);
+        rest = rest / 256;
+        i += 1;
+    }
 }

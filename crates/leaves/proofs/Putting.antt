@@ -8,13 +8,26 @@ use lib.ListN.{length, length-append}
 use lib.Seq.{sets, length-sets}
 use Rattle.meaning.specs.Places.{Wrote}
 use Rattle.meaning.specs.declared.Offset.{Offset}
-use Rattle.meaning.proofs.Stores.{sets-append}
+use Rattle.meaning.proofs.Stores.{sets-append, sets-swap, sets-past}
 
 -- some bytes are written, and others after them
 pub wrote-after : {xs ys : List ℕ} {at : ℕ} {mid end : Offset} {out out₁ out₂ : List ℕ} → Wrote xs at out out₁ mid → Wrote ys (mid .byte) out₁ out₂ end
     → Wrote (xs ++ ys) at out out₂ end
 wrote-after {xs} {ys} {at} {out = out} p q =
     record { ends = omega (arith, p .ends, q .ends, length-append xs ys); here = q .here ∙ rw (p .here, p .ends) (sets-append xs ys out at) }
+
+-- the same where those that come first are written last
+pub wrote-before : (xs : List ℕ) {ys : List ℕ} {at : ℕ} {end : Offset} {out out₁ out₂ : List ℕ} → Wrote ys (at + length xs) out out₁ end
+    → out₂ ≡ sets out₁ at xs → Wrote (xs ++ ys) at out out₂ end
+wrote-before xs {ys} {at} {out = out} p e =
+    record {
+      ends = omega (arith, p .ends, length-append xs ys);
+      here = e ∙ rw (p .here) (sets-swap xs ys out at (at + length xs) (omega arith) ∙ sets-append xs ys out at);
+    }
+
+-- nothing of what is written lies within the output
+pub wrote-past : {xs : List ℕ} {at : ℕ} {end : Offset} {out : List ℕ} → length out ≤ at → end .byte ≡ at + length xs → Wrote xs at out out end
+wrote-past {xs} {at} {out = out} h e = record { ends = e; here = sym (sets-past xs out at h) }
 
 -- the same bytes in other words
 pub wrote-as : {xs ys : List ℕ} {at : ℕ} {out out′ : List ℕ} {end : Offset} → xs ≡ ys → Wrote xs at out out′ end → Wrote ys at out out′ end

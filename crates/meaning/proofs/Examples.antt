@@ -1,4 +1,5 @@
--- The marked examples of document 01 and of request P1 that are to be proved of the meaning, and the listing that document 01 prints: each closes by computation. Assumes nothing.
+-- The marked examples of document 01 and of request P1 that are to be proved of the meaning, and the listing that document 01 prints: each closes by
+-- computation. Assumes nothing.
 use mathlib.Core.Path.{_≡_, refl}
 use mathlib.Core.List.{[], _∷_, _++_}
 use lib.ListN.{replicate}

@@ -5,7 +5,7 @@ use native.Mathlib.Nat.{add-zero, add-suc, suc-add}
 use native.Mathlib.Omega.{arith}
 use mathlib.Core.List.{List, [], _∷_, _++_, append-assoc}
 use lib.ListN.{length, getD, take, drop, set}
-use lib.Seq.{sets, sets-eq, getD-set-other, take-set-le, set-comm, take-at, drop-at, length-take-le, take-take, take-add, drop-drop}
+use lib.Seq.{sets, sets-eq, set-out, getD-set-other, take-set-le, set-comm, take-at, drop-at, length-take-le, take-take, take-add, drop-drop}
 
 module _ {A : Type 0} where
   pub sets-append : (vs ws l : List A) (a : ℕ) → sets (sets l a vs) (a + length vs) ws ≡ sets l a (vs ++ ws)
@@ -14,6 +14,11 @@ module _ {A : Type 0} where
 
   pub sets-snoc : (vs : List A) (v : A) (l : List A) (a : ℕ) → set (sets l a vs) (a + length vs) v ≡ sets l a (vs ++ (v ∷ []))
   sets-snoc vs v l a = sets-append vs (v ∷ []) l a
+
+  -- past the end nothing is stored
+  pub sets-past : (vs l : List A) (a : ℕ) → length l ≤ a → sets l a vs ≡ l
+  sets-past [] l a h = refl
+  sets-past (v ∷ vs) l a h = ap (λ (m : List A). sets m (suc a) vs) (set-out l a v h) ∙ sets-past vs l (suc a) (omega arith)
 
   pub take-sets : (vs l : List A) (k a : ℕ) → k ≤ a → take k (sets l a vs) ≡ take k l
   take-sets [] l k a h = refl

@@ -1,4 +1,5 @@
--- Numbers in the fewest bytes, for codes 2, 3, 4 and 7: a list's data bytes read back as the list, and what reads as a list are its data bytes. Assumes nothing.
+-- Numbers in the fewest bytes, for codes 2, 3, 4 and 7: a list's data bytes read back as the list, and what reads as a list are its data bytes.
+-- Assumes nothing.
 use Prim.Native.Nat.{ℕ, zero, suc, _+_, _-_, _*_, _/_, _^_, _≤_, _<_}
 use mathlib.Core.Path.{_≡_, refl, sym, ap, ap₂, _∙_, subst}
 use mathlib.Core.List.{List, [], _∷_, _++_, append-assoc, map}

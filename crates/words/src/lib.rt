@@ -2,12 +2,14 @@
 use leaves::put;
 use leaves::wide;
 use meaning::Offset;
+use meaning::Place;
 ghost use mathlib.Core.Path.{_≡_};
-ghost use Prim.Native.Nat.{_<_, _+_, _≤_, _^_};
+ghost use Prim.Native.Nat.{_<_, _+_, _*_, _≤_, _^_};
 ghost use lib.ListN.{length, take, drop};
 ghost use lib.Seq.{sets};
 ghost use Rattle.meaning.specs.Bytes.{numberOf, word, wordAt};
-ghost use Rattle.meaning.specs.DataBytes.{byteLength, fewest};
+ghost use Rattle.meaning.specs.DataBytes.{byteLength, fewest, dataBytes};
+ghost use Rattle.meaning.specs.Places.{part};
 
 // How many bytes hold x: zero takes one.
 pub fn byte_length(x: u32) -> usize
@@ -49,8 +51,48 @@ pub fn word_at(bytes: &[u8], at: Offset) -> u32
     number_at(bytes, at, 4)
 }
 
+// How many bytes the data of n numbers from a place on takes.
+pub fn data_length(list: &[u32], from: Place, n: usize) -> usize
+    requires { ⌜ (from .number + n ≤ length (now list)) × (4 * n < 2 ^ 64) ⌝ }
+    ensures { λ r. ⌜ r ≡ length (dataBytes (part (now (list .entry)) (from .number) n)) ⌝ }
+{
+    let first = from.number;
+    let mut size: usize = 0;
+    let mut i: usize = 0;
+    while i < n {
+        size += byte_length(list[first + i]);
+        i += 1;
+    }
+    size
+}
+
 // A number is put in its fewest bytes. Answers where they end.
 pub fn put_fewest(out: &mut [u8], at: Offset, x: u32) -> Offset
+    requires { ⌜ at .byte + 4 < 2 ^ 64 ⌝ }
+    ensures { λ r. ⌜ (r .byte ≡ at .byte + byteLength x) × (now (out .exit) ≡ sets (now (out .entry)) (at .byte) (fewest x)) ⌝ }
+{
+    let start = at.byte;
+    if out.len() < start + 4 {
+        return put_near(out, at, x);
+    }
+    out[start] = (x % 256) as u8;
+    if x < 256 {
+        return Offset { byte: start + 1 };
+    }
+    out[start + 1] = (x / 256 % 256) as u8;
+    if x < 65536 {
+        return Offset { byte: start + 2 };
+    }
+    out[start + 2] = (x / 65536 % 256) as u8;
+    if x < 16777216 {
+        return Offset { byte: start + 3 };
+    }
+    out[start + 3] = (x / 16777216 % 256) as u8;
+    Offset { byte: start + 4 }
+}
+
+// The same near the output's end: each byte is put where it lies within it.
+fn put_near(out: &mut [u8], at: Offset, x: u32) -> Offset
     requires { ⌜ at .byte + 4 < 2 ^ 64 ⌝ }
     ensures { λ r. ⌜ (r .byte ≡ at .byte + byteLength x) × (now (out .exit) ≡ sets (now (out .entry)) (at .byte) (fewest x)) ⌝ }
 {

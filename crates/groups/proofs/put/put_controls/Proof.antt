@@ -1,7 +1,7 @@
 -- What is still to be put, put from here on, makes the whole; a turn puts one control byte. Assumes nothing.
 use Prim.Native.Nat.{_+_, _-_}
 use native.Mathlib.Omega.{arith}
-use Rattle.groups.specs.Layouts.{layoutOf}
+use Rattle.meaning.specs.Groups.{fours}
 use Rattle.groups.specs.Parts.{controlsOf}
 use Rattle.groups.proofs.Pieces.{controls-none}
 use Rattle.groups.proofs.Puts.{PutSo, put-start, put-turn, put-end, put-long, put-one, controls-turn, controls-bound}
@@ -10,11 +10,11 @@ use Rattle.groups.proofs.put.put_controls.Statement.{statement}
 use Rattle.groups.proofs.put.put_controls.Tie as tie
 
 abbrev Inv-loop : tie.InvT-loop
-Inv-loop form list n out₀ first to₀ i₀ out to i =
-    PutSo (controlsOf (layoutOf form .group) list) first n to₀ out₀ out to i
+Inv-loop list n out₀ first to₀ i₀ out to i =
+    PutSo (controlsOf fours list) first n to₀ out₀ out to i
 
 abbrev μ-loop : tie.MeasureT-loop
-μ-loop form list n out₀ first to₀ i₀ out to i =
+μ-loop list n out₀ first to₀ i₀ out to i =
     n - i
 
 -- a point of the program: `let turn : At tie.In-loop = search in` finds, by its type, the one that c came by
@@ -25,19 +25,19 @@ loop-holds : tie.Need-loop-holds Inv-loop μ-loop
 loop-holds c =
     let start : At tie.Start = search in
     let a = start .args in
-    put-start (controlsOf (layoutOf (a .form) .group) (a .list .now)) (a .from .number) (a .n) (a .at .byte) (a .out .now)
+    put-start (controlsOf fours (a .list .now)) (a .from .number) (a .n) (a .at .byte) (a .out .now)
 
 add-to : tie.Need-add-to Inv-loop μ-loop
 add-to c =
     let turn : At tie.In-loop = search in
     let start : At tie.Start = search in
     let a = start .args in
-    omega (arith, turn .before .loop .inv, controls-bound (a .list .now) (a .from .number) (a .n) (start .pre .0) (layoutOf (a .form) .group), start .pre .1)
+    omega (arith, turn .before .loop .inv, controls-bound (a .list .now) (a .from .number) (a .n) (start .pre .0) fours, start .pre .1)
 
 loop-again : tie.Need-loop-again Inv-loop μ-loop
 loop-again c =
     let head : At tie.After-put = search in
-    let control : At tie.After-control-by = search in
+    let control : At tie.After-control-of = search in
     let count : At tie.After-lesser = search in
     let turn : At tie.In-loop = search in
     let start : At tie.Start = search in
@@ -46,9 +46,8 @@ loop-again c =
     let more = turn .loop-test .taken in
     let most = count .lesser .ensures in
     let next =
-    controls-turn (a .list .now) (a .from .number + l .i) (a .n - l .i) (omega arith) (omega (arith, start .pre .0)) (layoutOf (a .form) .group)
-    (count .lesser .result) most in
-    put-turn (l .inv) (count .lesser .result) (omega arith) next (put-one (head .put .ensures) (control .control-by .ensures))
+    controls-turn (a .list .now) (a .from .number + l .i) (a .n - l .i) (omega arith) (omega (arith, start .pre .0)) fours (count .lesser .result) most in
+    put-turn (l .inv) (count .lesser .result) (omega arith) next (put-one (head .put .ensures) (control .control-of .ensures))
 
 same-length : tie.Need-same-length Inv-loop μ-loop
 same-length c = put-long (c .before .loop .inv)
@@ -56,7 +55,7 @@ same-length c = put-long (c .before .loop .inv)
 returns : tie.Need-returns Inv-loop μ-loop
 returns c =
     let start : At tie.Start = search in
-    put-end (c .before .loop .inv) (c .loop-test .left) (λ place. controls-none (layoutOf (start .args .form) .group))
+    put-end (c .before .loop .inv) (c .loop-test .left) (λ place. controls-none fours)
 
 pub put-controls-spec : {M : Type 1} → statement M
 put-controls-spec =
@@ -68,7 +67,7 @@ put-controls-spec =
     (λ c. search needs)  -- sub-lesser
     (λ c κs. search needs)  -- lesser-requires
     (λ c. search needs)  -- add-place
-    (λ c κs. search needs)  -- control-by-requires
+    (λ c κs. search needs)  -- control-of-requires
     (λ c κs. search needs)  -- put-requires
     add-to
     (λ c. search needs)  -- add-i
