@@ -26,13 +26,14 @@ groupsOf g xs from m = writeGroups g (part xs from m)
 abbrev pub sizeOf : List ℕ → ℕ → ℕ → ℕ
 sizeOf xs from m = groupCount m + length (dataOf xs from m)
 
--- the data of xs stands in an output from an offset on; r tells where it ends, their fields in groups of four, and how many fields of that many there are
+-- the data of xs stands in an output from an offset on; r tells where it ends, their fields as groups of four have them, and one more than so many fields
+-- can be at most
 pub record Laid (xs : List ℕ) (at : ℕ) (out out′ : List ℕ) (r : Fielded) : Type 0 where
   pub wrote : Wrote (dataBytes xs) at out out′ (r .end)
   pub fields : r .fields ≡ control fours xs
   pub scale : r .scale ≡ 4 ^ length xs
 
--- fields of groups of four as a code has them, where `scale` is one more than the largest: a field of a batch is 3 less
+-- fields of groups of four as a code has them, where `scale` is one more than they can be at most: in a batch each is what is left of 3
 abbrev pub fieldsBy : Form → ℕ → ℕ → ℕ
 fieldsBy Fours fields scale = fields
 fieldsBy Stream fields scale = fields

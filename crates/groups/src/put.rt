@@ -86,7 +86,7 @@ pub fn put_data(list: &[u32], from: Place, n: usize, out: &mut [u8], at: Offset)
     to
 }
 
-// Where a group's data ends, its fields as codes 2 and 4 have them, and where the next field would begin.
+// Where a group's data ends, its fields as codes 2 and 4 have them, and one more than so many fields can be at most.
 pub struct Fielded {
     pub end: Offset,
     pub fields: usize,
@@ -118,7 +118,7 @@ pub fn put_fielded(list: &[u32], from: Place, k: usize, out: &mut [u8], at: Offs
     }
 }
 
-// The fields as a code has them: in code 7 each is 3 less.
+// The fields as a code has them: in code 7 each is what is left of 3.
 pub fn fields_by(form: Form, fields: usize, scale: usize) -> usize
     requires { ⌜ fields < scale ⌝ }
     ensures { λ r. ⌜ r ≡ fieldsBy form fields scale ⌝ }
