@@ -1,13 +1,12 @@
 -- What a stretch of units answers: what was taken, or the one unit that was read. Assumes nothing.
-use Prim.Native.Nat.{ℕ, _+_, _-_, _≤_, _<_, min}
+use Prim.Native.Nat.{ℕ, _≤_, _<_, min}
 use mathlib.Core.Path.{_≡_, refl, sym, ap, _∙_}
 use mathlib.Core.List.{List, [], _∷_}
 use native.Mathlib.Nat.{sub-zero}
-use native.Mathlib.Numerals.{add-one}
 use native.Mathlib.Omega.{arith}
 use borrow.Author.Tests.{lt-ltb}
-use lib.ListN.{length, getD, take, set, length-take}
-use lib.Seq.{sets, length-sets, length-take-le, take-suc, take-all, take-take}
+use lib.ListN.{length, getD, take, length-take}
+use lib.Seq.{sets, length-sets, length-take-le, take-all, take-take}
 use Rattle.meaning.specs.Answer.{Answer, given, refused}
 use Rattle.meaning.specs.Codes.{Code}
 use Rattle.meaning.specs.Limits.{unitPlaces}
@@ -20,7 +19,6 @@ use Rattle.meaning.specs.declared.Unit.the-variants.{Next, Refused}
 use Rattle.meaning.specs.declared.UnitRead.{UnitRead}
 use Rattle.meaning.proofs.Codes.{length-some}
 use Rattle.meaning.proofs.Lawful.{Lawful}
-use Rattle.meaning.proofs.Stores.{sets-snoc}
 use Rattle.meaning.proofs.Tests.{by-order}
 use Rattle.codes.specs.Goes.{Passed, Goes, wentRefusal}
 use Rattle.codes.specs.declared.Went.{Went}

@@ -1,8 +1,7 @@
 -- Codes 2, 4 and 7 are lawful: what they write reads back, what they read is what would be written, and their size is as told. Assumes nothing.
-use Prim.Native.Nat.{ℕ, suc, _+_, _-_, _≤_, _<_}
+use Prim.Native.Nat.{ℕ, _+_, _-_, _≤_, _<_}
 use mathlib.Core.Path.{_≡_, refl, sym, ap, ap₂, _∙_, subst}
-use mathlib.Core.List.{List, [], _∷_, _++_}
-use native.Mathlib.Nat.{add-assoc}
+use mathlib.Core.List.{List, [], _++_}
 use native.Mathlib.Omega.{arith}
 use lib.Dec.{leb}
 use lib.ListN.{length, take, drop, length-append, length-take, length-drop, drop-of-length-le, take-append-drop}
@@ -26,7 +25,7 @@ use Rattle.words.proofs.DataBytes.{data-most, data-small}
 use Rattle.groups.specs.Layouts.{unitBy, behind, apart, toTail}
 use Rattle.groups.proofs.Controls.{Fields, fours-fields, batches-fields}
 use Rattle.groups.proofs.Pieces.{groups-next, groups-none, groups-small, groups-size}
-use Rattle.groups.proofs.Pieces.{controls-none, controls-split, controls-count, controls-small, data-next, count-next, stream-size}
+use Rattle.groups.proofs.Pieces.{controls-none, controls-split, controls-count, controls-small, data-next, stream-size}
 use Rattle.groups.proofs.Grouped.{First, Chain, good, unit-faulty, whole, Holds}
 
 -- ---- codes 2 and 7: the data follows its control bytes

@@ -1,12 +1,12 @@
 -- A list in pieces, its control bytes, and what is written group by group, for every grouping. Assumes nothing.
-use Prim.Native.Nat.{ℕ, zero, suc, _+_, _-_, _*_, _≤_, _<_, min}
+use Prim.Native.Nat.{ℕ, zero, suc, _+_, _*_, _≤_, _<_, min}
 use mathlib.Core.Path.{_≡_, refl, sym, ap, ap₂, _∙_}
-use mathlib.Core.List.{List, [], _∷_, _++_, append-nil, append-assoc, map}
+use mathlib.Core.List.{List, [], _∷_, _++_, append-nil, append-assoc}
 use native.Mathlib.Omega.{arith}
 use lib.ListN.{length, take, drop, drop-of-length-le, length-append, length-take, length-drop, take-append-drop}
 use lib.Seq.{take-at, drop-at, take-all}
 use Rattle.meaning.specs.Bytes.{bytesOf, numberOf}
-use Rattle.meaning.specs.DataBytes.{byteLength, dataBytes}
+use Rattle.meaning.specs.DataBytes.{dataBytes}
 use Rattle.meaning.specs.Groups.{Grouping, fours, piecesFrom, pieces, groupCount, controlOf, control, controls, writeGroups, writeStream}
 use Rattle.meaning.specs.Lists.{joined}
 use Rattle.meaning.specs.Places.{Below}
@@ -83,11 +83,6 @@ controls-split g (a ∷ []) = refl
 controls-split g (a ∷ b ∷ []) = refl
 controls-split g (a ∷ b ∷ c ∷ []) = refl
 controls-split g (a ∷ b ∷ c ∷ d ∷ xs) = controls-next g (a ∷ b ∷ c ∷ d ∷ xs) (omega arith)
-
--- a control byte more
-pub count-next : (n : ℕ) → 0 < n → groupCount n ≡ suc (groupCount (n - 4))
-unfolding groupCount
-count-next n h = omega arith
 
 pub controls-count : (g : Grouping) (xs : List ℕ) → length (controls g xs) ≡ groupCount (length xs)
 unfolding groupCount

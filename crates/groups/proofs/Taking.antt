@@ -13,8 +13,7 @@ use Rattle.meaning.specs.Answer.{given}
 use Rattle.meaning.specs.Bytes.{numberOf, wordAt}
 use Rattle.meaning.specs.Codes.{Code, codeGroups, codeStream, codeBatches}
 use Rattle.meaning.specs.DataBytes.{byteLength}
-use Rattle.meaning.specs.Groups.{Grouping, fours, batches, groupCount, lengthsIn, groupFrom, groupAt, unitGroups, unitStream}
-use Rattle.meaning.specs.Limits.{unitPlaces}
+use Rattle.meaning.specs.Groups.{fours, batches, groupCount, lengthsIn, groupFrom, groupAt, unitGroups, unitStream}
 use Rattle.meaning.specs.Places.{Below, Spare, Took, Ends}
 use Rattle.meaning.specs.Positions.{atByte}
 use Rattle.meaning.specs.declared.Position.{Position}

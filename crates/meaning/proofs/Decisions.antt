@@ -1,4 +1,4 @@
--- The other marked examples, the decisions of docs/DECISIONS.md (d1 to d13) and the order of refusals, computed. Assumes nothing.
+-- The other marked examples, the decisions of docs/DECISIONS.md (d1 to d13, and p1 for request P1) and the order of refusals, computed. Assumes nothing.
 use Prim.Native.Nat.{ℕ}
 use mathlib.Core.Path.{_≡_, refl}
 use mathlib.Core.List.{List, [], _∷_, _++_}
@@ -264,3 +264,20 @@ after-the-end = refl
 second-call : call (1 ∷ 1 ∷ 0 ∷ 1 ∷ (replicate 14 0 ++ (2 ∷ 0 ∷ 0 ∷ 0 ∷ 2 ∷ 0 ∷ 0 ∷ 0 ∷ 7 ∷ 9 ∷ []))) 0 1 ≡ given 9
 unfolding meaning
 second-call = refl
+
+-- ---- request P1: a lookup takes the batches up to its place's, with all their numbers and unused fields, and looks at nothing after
+p1-second-batch-cut : look (code 7) (replicate 4 255 ++ replicate 16 9) 17 15 ≡ given 9
+unfolding meaning
+p1-second-batch-cut = refl
+
+p1-later-in-batch : look (code 7) (0xbf ∷ 1 ∷ 2 ∷ 3 ∷ 4 ∷ 0 ∷ []) 4 0 ≡ refused 9
+unfolding meaning
+p1-later-in-batch = refl
+
+p1-unused-field : look (code 7) (0x0b ∷ 0 ∷ []) 1 0 ≡ refused 9
+unfolding meaning
+p1-unused-field = refl
+
+p1-left-over : read (code 7) (0x03 ∷ 0 ∷ 0 ∷ []) 1 ≡ refused 9
+unfolding meaning
+p1-left-over = refl

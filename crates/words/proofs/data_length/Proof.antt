@@ -1,6 +1,6 @@
 -- The lengths of the first i numbers, and what is left. Assumes nothing.
 use Prim.Native.Nat.{ℕ, _+_, _-_, _*_, _^_, _≤_, _<_}
-use mathlib.Core.Path.{_≡_, refl, ap, _∙_}
+use mathlib.Core.Path.{_≡_, refl}
 use mathlib.Core.List.{List}
 use native.Mathlib.Nat.{add-zero, add-assoc, zero-add, sub-zero}
 use native.Mathlib.Omega.{arith}

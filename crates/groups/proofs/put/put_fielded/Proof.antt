@@ -1,9 +1,7 @@
 -- A turn puts one number, and tells its field (`FieldsSo`). Assumes nothing.
 use Prim.Native.Nat.{_+_, _-_}
-use mathlib.Core.Path.{_≡_}
 use native.Mathlib.Omega.{arith}
 use lib.ListN.{getD}
-use Rattle.meaning.specs.DataBytes.{byteLength}
 use Rattle.words.proofs.DataBytes.{held}
 use Rattle.groups.proofs.Puts.{FieldsSo, fields-start, fields-turn, fields-end, field-few, put-few, put-long, data-bound}
 use borrow.Author.Needs.{needs}

@@ -1,7 +1,6 @@
 -- What is still to be put, put from here on, makes the whole; a turn puts one byte. Assumes nothing.
 use Prim.Native.Nat.{_-_}
 use mathlib.Core.Path.{refl}
-use native.Mathlib.Omega.{arith}
 use Rattle.groups.proofs.Puts.{NumberSo, number-start, number-long, number-turn, number-end}
 use borrow.Author.Needs.{needs}
 use Rattle.groups.proofs.put.put_number.Statement.{statement}

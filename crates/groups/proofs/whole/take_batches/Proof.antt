@@ -1,6 +1,6 @@
 -- A whole batch that was taken is one turn (`TakesWhole`); at anything else the loop stops. Assumes nothing.
 use Prim.Native.Nat.{_-_}
-use mathlib.Core.Path.{_≡_, refl, _∙_}
+use mathlib.Core.Path.{_≡_, refl}
 use native.Mathlib.Omega.{arith}
 use lib.ListN.{length}
 use Rattle.meaning.specs.Codes.{codeBatches}
