@@ -95,7 +95,7 @@ pub struct Fielded {
 
 // Puts the data of k numbers from a place on, and answers also their fields: a length is how far its number's data goes.
 pub fn put_fielded(list: &[u32], from: Place, k: usize, out: &mut [u8], at: Offset) -> Fielded
-    requires { ⌜ (k ≤ unitPlaces) × (from .number + k ≤ length (now list)) × (at .byte + 4 * k < 2 ^ 63) ⌝ }
+    requires { ⌜ (k ≤ unitPlaces) × (from .number + k ≤ length (now list)) × (at .byte + 4 * k + 4 < 2 ^ 64) ⌝ }
     ensures { λ r. ⌜ Laid (part (now (list .entry)) (from .number) k) (at .byte) (now (out .entry)) (now (out .exit)) r ⌝ }
 {
     let first = from.number;

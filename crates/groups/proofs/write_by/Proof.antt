@@ -69,7 +69,7 @@ put-fielded-requires : tie.Need-put-fielded-requires Inv-loop μ-loop
 put-fielded-requires c κs =
     let count : At tie.After-lesser = search in
     let next = next-group count in
-    (next .few, next .inside, next .short)
+    (next .few, next .inside, omega (arith, next .few))
 
 fields-by-requires : tie.Need-fields-by-requires Inv-loop μ-loop
 fields-by-requires c κs =
