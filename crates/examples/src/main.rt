@@ -153,11 +153,11 @@ fn four_wise(name: &[u8], body: &[u8], n: usize) {
     );
 }
 
-// Bodies of code 7: request P1's first example and its faults, and a batch of 16 with a 17th number behind it.
+// Bodies of code 7: request P1's first examples, and a body with each fault.
 fn batches() {
     four_wise(
         b"four-wise 3E BF",
-        &[0x3e, 0xbf, 0, 4, 12, 10, 0, 0, 0, 0x40, 1, 2, 3, 0, 4],
+        b"\x3e\xbf\x00\x04\x0c\x0a\x00\x00\x00\x40\x01\x02\x03\x00\x04",
         8,
     );
     four_wise(b"four-wise 03 00", &[3, 0], 1);
@@ -166,57 +166,18 @@ fn batches() {
     four_wise(b"cut in masks", &[0xff], 5);
     four_wise(b"cut in data", &[0xff, 3, 1, 2, 3, 4], 5);
     four_wise(b"a byte left over", &[3, 0, 0], 1);
-    let two = [
-        255u8,
-        255,
-        255,
-        255,
-        0,
-        1,
-        2,
-        3,
-        4,
-        5,
-        6,
-        7,
-        8,
-        9,
-        10,
-        11,
-        12,
-        13,
-        14,
-        15,
-        3,
-        16,
-    ];
-    four_wise(b"17 four-wise", &two, 17);
-    looked(b"the 17th of 17 four-wise", 7, &two, 17, 16);
-    let cut = [
-        255u8,
-        255,
-        255,
-        255,
-        0,
-        1,
-        2,
-        3,
-        4,
-        5,
-        6,
-        7,
-        8,
-        9,
-        10,
-        11,
-        12,
-        13,
-        14,
-        15,
-        3,
-    ];
-    looked(b"the 16th, the second batch cut", 7, &cut, 17, 15);
-    looked(b"the 17th, the second batch cut", 7, &cut, 17, 16);
+}
+
+// A batch of 16 with a 17th number behind it: a fault there is none to the first batch.
+fn second_batch() {
+    let two =
+        b"\xff\xff\xff\xff\x00\x01\x02\x03\x04\x05\x06\x07\x08\x09\x0a\x0b\x0c\x0d\x0e\x0f\x03\x10";
+    let cut =
+        b"\xff\xff\xff\xff\x00\x01\x02\x03\x04\x05\x06\x07\x08\x09\x0a\x0b\x0c\x0d\x0e\x0f\x03";
+    four_wise(b"17 four-wise", two, 17);
+    looked(b"the 17th of 17 four-wise", 7, two, 17, 16);
+    looked(b"the 16th, the second batch cut", 7, cut, 17, 15);
+    looked(b"the 17th, the second batch cut", 7, cut, 17, 16);
 }
 
 // Reading empty fields of the last group as numbers, one added to 4294967295 in 32 bits, 002's end bit, room left in a block.
@@ -251,5 +212,6 @@ fn main() {
     plans();
     bodies();
     batches();
+    second_batch();
     earlier_errors();
 }
