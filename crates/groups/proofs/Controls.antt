@@ -11,8 +11,8 @@ use Rattle.words.proofs.DataBytes.{held}
 
 -- a full group fills its control bytes; each length from 1 to 4 has a field of two bits, and each field such a length
 pub record Fields (g : Grouping) : Type 0 where
-  pub quads : ℕ
-  pub full : g .most ≡ 4 * suc quads
+  pub any : 0 < g .most
+  pub full : g .most % 4 ≡ 0
   pub low : (l : ℕ) → 1 ≤ l → l ≤ 4 → g .field l < 4
   pub forth : (l : ℕ) → 1 ≤ l → l ≤ 4 → g .bytes (g .field l) ≡ l
   pub back : (f : ℕ) → f < 4 → g .field (g .bytes f) ≡ f
@@ -21,29 +21,11 @@ pub record Fields (g : Grouping) : Type 0 where
 
 -- the length minus one
 pub fours-fields : Fields fours
-fours-fields =
-    record {
-      quads = 0;
-      full = refl;
-      low = λ l a b. omega arith;
-      forth = λ l a b. omega arith;
-      back = λ f h. omega arith;
-      some = λ f h. omega arith;
-      few = λ f h. omega arith;
-    }
+fours-fields = omega arith
 
 -- four minus the length
 pub batches-fields : Fields batches
-batches-fields =
-    record {
-      quads = 3;
-      full = refl;
-      low = λ l a b. omega arith;
-      forth = λ l a b. omega arith;
-      back = λ f h. omega arith;
-      some = λ f h. omega arith;
-      few = λ f h. omega arith;
-    }
+batches-fields = omega arith
 
 -- the lengths that a field can say
 abbrev pub Lengths : List ℕ → Type 0
@@ -56,6 +38,9 @@ lengths-of (x ∷ xs) = (held x .least, held x .most, lengths-of xs)
 
 pub quarter : (c k : ℕ) → c / 4 ^ suc k ≡ c / 4 / 4 ^ k
 quarter c k = rw (pow-suc 4 k, mul-comm (4 ^ k) 4) (sym (div-div-eq-div-mul c 4 (4 ^ k)))
+
+pub power-more : (k q : ℕ) → 4 ^ suc k * q ≡ 4 * (4 ^ k * q)
+power-more k q = rw (pow-suc 4 k, mul-comm (4 ^ k) 4) (mul-assoc 4 (4 ^ k) q)
 
 pub lengths-many : (g : Grouping) (k c : ℕ) → length (lengthsIn g k c) ≡ k
 unfolding lengthsIn
@@ -119,7 +104,7 @@ lengths-first : (g : Grouping) (k c q : ℕ) → lengthsIn g k (c + 4 ^ k * q) �
 unfolding lengthsIn
 lengths-first g zero c q = refl
 lengths-first g (suc k) c q =
-    let e : 4 ^ suc k * q ≡ 4 * (4 ^ k * q) = rw (pow-suc 4 k, mul-comm (4 ^ k) 4) (mul-assoc 4 (4 ^ k) q) in
+    let e = power-more k q in
     let low : (c + 4 ^ suc k * q) % 4 ≡ c % 4 = omega arith in
     let high : (c + 4 ^ suc k * q) / 4 ≡ c / 4 + 4 ^ k * q = omega arith in
     rw (low, high, lengths-first g k (c / 4) q)

@@ -17,7 +17,7 @@ use Rattle.meaning.proofs.Bounds.{below-nil, below-take, below-drop, below-appe
 use Rattle.meaning.proofs.Units.{Good, Whole}
 use Rattle.groups.specs.Layouts.{Layout, size, unitBy}
 use Rattle.groups.proofs.Controls.{Fields}
-use Rattle.groups.proofs.Pieces.{most-some, first-piece}
+use Rattle.groups.proofs.Pieces.{first-piece}
 use Rattle.groups.proofs.OneGroup.{written-at, many-at, back-at, faulty-at}
 
 -- the group of ys stands at p
@@ -60,7 +60,7 @@ module _ (g : Layout) (by : Fields (g .group)) (body : List ℕ) where
   pub good : Good (unitBy g body)
   good =
       record {
-        some = λ left p u h e. omega (arith, unit-many left p u e, most-some by);
+        some = λ left p u h e. omega (arith, unit-many left p u e, by .any);
         few = λ left p u h e. omega (arith, unit-many left p u e);
       }
 
@@ -103,7 +103,7 @@ module _ (g : Layout) (by : Fields (g .group)) (body : List ℕ) where
         let t = unit-is (suc n) p u e in
         let b = back-at by body (size g (suc n)) (p .head .byte) (g .from (groupCount (size g (suc n))) p) (t .end, ys) low (t .group) in
         let many = unit-many (suc n) p u e in
-        let some = most-some by in
+        let some = by .any in
         let ends : t .end ≡ g .from (groupCount (length ys)) p + length (dataBytes ys) = rw many (b .ends) in
         let at : u .0 ≡ after g p ys = sym (ap (λ (v : Position × List ℕ). v .0) (t .is)) ∙ rw (← many) (ap (g .next (groupCount (length ys)) p) ends) in
         let first : First g body p ys =

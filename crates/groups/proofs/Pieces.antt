@@ -113,9 +113,6 @@ controls-number g =
     (λ xs h ih. ap numberOf (controls-next g xs h) ∙ omega (arith, ih, control-four g xs))
 
 module _ {g : Grouping} (by : Fields g) where
-  pub most-some : 0 < g .most
-  most-some = omega (arith, by .full)
-
   pub controls-small : (xs : List ℕ) → Below 256 (controls g xs)
   controls-small =
       by-pieces 4 (omega arith) (λ (xs : List ℕ). Below 256 (controls g xs))
@@ -135,7 +132,7 @@ module _ {g : Grouping} (by : Fields g) where
   pub groups-next : (xs : List ℕ) → 0 < length xs
       → writeGroups g xs ≡ controls g (take (g .most) xs) ++ (dataBytes (take (g .most) xs) ++ writeGroups g (drop (g .most) xs))
   unfolding writeGroups joined
-  groups-next xs h = rw (pieces-next (g .most) most-some xs h) (append-assoc (controls g (take (g .most) xs)) (dataBytes (take (g .most) xs)) _)
+  groups-next xs h = rw (pieces-next (g .most) (by .any) xs h) (append-assoc (controls g (take (g .most) xs)) (dataBytes (take (g .most) xs)) _)
 
   pub groups-none : writeGroups g [] ≡ []
   unfolding writeGroups joined pieces piecesFrom
@@ -143,7 +140,7 @@ module _ {g : Grouping} (by : Fields g) where
 
   pub groups-small : (xs : List ℕ) → Below 256 (writeGroups g xs)
   groups-small =
-      by-pieces (g .most) most-some (λ (xs : List ℕ). Below 256 (writeGroups g xs))
+      by-pieces (g .most) (by .any) (λ (xs : List ℕ). Below 256 (writeGroups g xs))
       (rw groups-none (below-nil 256 (omega arith)))
       (λ xs h ih. let ys = take (g .most) xs in
       rw (groups-next xs h)
@@ -170,7 +167,7 @@ module _ {g : Grouping} (by : Fields g) where
   pub groups-size : (xs : List ℕ) → length (writeGroups g xs) ≡ groupCount (length xs) + length (dataBytes xs)
   unfolding groupCount dataBytes joined
   groups-size =
-      by-pieces (g .most) most-some (λ (xs : List ℕ). length (writeGroups g xs) ≡ groupCount (length xs) + length (dataBytes xs))
+      by-pieces (g .most) (by .any) (λ (xs : List ℕ). length (writeGroups g xs) ≡ groupCount (length xs) + length (dataBytes xs))
       (ap length groups-none) groups-more
 
 pub stream-size : (xs : List ℕ) → length (writeStream xs) ≡ groupCount (length xs) + length (dataBytes xs)

@@ -2,7 +2,7 @@
 use Prim.Native.Nat.{ℕ, zero, suc, _+_, _-_, _*_, _/_, _%_, _^_, _≤_, _<_, min}
 use mathlib.Core.Path.{_≡_, refl, sym, ap, ap₂, _∙_}
 use mathlib.Core.List.{List, [], _∷_, _++_, append-assoc, map, map-append}
-use native.Mathlib.Nat.{add-zero, add-assoc, sub-zero, mul-comm, mul-assoc, mul-le-mul-left, pow-suc, pow-le-pow-right}
+use native.Mathlib.Nat.{add-zero, add-assoc, sub-zero, mul-le-mul-left, pow-suc, pow-le-pow-right}
 use native.Mathlib.Numerals.{add-one}
 use native.Mathlib.Omega.{arith}
 use lib.ListN.{length, getD, take, drop, set, length-append, length-map, length-take}
@@ -11,11 +11,10 @@ use Rattle.meaning.specs.Bytes.{bytesOf}
 use Rattle.meaning.specs.DataBytes.{byteLength, fewest, dataBytes}
 use Rattle.meaning.specs.Groups.{Grouping, fours, groupCount, controlOf, control, controls}
 use Rattle.meaning.specs.Limits.{unitPlaces}
-use Rattle.meaning.specs.Lists.{joined}
 use Rattle.meaning.specs.Places.{Source, Wrote, part}
 use Rattle.meaning.specs.declared.Offset.{Offset}
 use Rattle.meaning.proofs.Tests.{by-order}
-use Rattle.words.proofs.DataBytes.{held, few-length, data-cons, data-most}
+use Rattle.words.proofs.DataBytes.{held, few-length, data-part, data-part-none, data-most}
 use Rattle.leaves.proofs.Parts.{part-length, part-cons, part-snoc}
 use Rattle.leaves.proofs.Putting.{wrote-before, Left, left-start, left-long, left-turn, left-end}
 use Rattle.groups.specs.Layouts.{layoutOf}
@@ -23,7 +22,7 @@ use Rattle.groups.specs.Parts.{dataOf, controlsOf, groupsOf, sizeOf, fie
 use Rattle.groups.specs.declared.group.Form.{Form}
 use Rattle.groups.specs.declared.group.Form.the-variants.{Fours, Stream, Batches}
 use Rattle.groups.specs.declared.put.Fielded.{Fielded}
-use Rattle.groups.proofs.Controls.{Fields, fours-fields, batches-fields, lengths-of, control-small, mask-of}
+use Rattle.groups.proofs.Controls.{Fields, fours-fields, batches-fields, power-more, lengths-of, control-small, mask-of}
 use Rattle.groups.proofs.Pieces.{groups-next, controls-next, controls-count, controls-bytes, groups-size}
 
 -- ---- the bytes of n numbers, `bytes place count`, of which those from number i on are still to be put: putting them makes the whole
@@ -79,14 +78,7 @@ part-piece xs from m most k e =
 
 -- ---- what each loop puts, and what one turn of it puts first
 module _ (xs : List ℕ) where
-  pub data-none : (place : ℕ) → dataOf xs place 0 ≡ []
-  unfolding dataBytes joined
-  data-none place = refl
-
   module _ (from left : ℕ) (some : 0 < left) (inside : from + left ≤ length xs) where
-    pub data-turn : dataOf xs from left ≡ fewest (getD xs from 0) ++ dataOf xs (from + 1) (left - 1)
-    data-turn = rw (part-cons xs from left some inside) (data-cons (getD xs from 0) (part xs (from + 1) (left - 1)))
-
     some-part : 0 < length (part xs from left)
     some-part = omega (arith, part-length xs from left inside)
 
@@ -183,8 +175,7 @@ control-snoc : (ls : List ℕ) (l : ℕ) → controlOf fours (ls ++ (l ∷ [])) 
 unfolding controlOf
 control-snoc [] l = omega arith
 control-snoc (m ∷ ls) l =
-    let e : 4 ^ suc (length ls) * (l - 1) ≡ 4 * (4 ^ length ls * (l - 1)) =
-    rw (pow-suc 4 (length ls), mul-comm (4 ^ length ls) 4) (mul-assoc 4 (4 ^ length ls) (l - 1)) in
+    let e = power-more (length ls) (l - 1) in
     omega (arith, control-snoc ls l)
 
 fields-snoc : (xs : List ℕ) (from i : ℕ) → from + i < length xs
@@ -239,7 +230,7 @@ module _ {list : List ℕ} {from k at : ℕ} {out₀ out : List ℕ} {to fields 
       let power : 4 ^ (i + 1) ≡ 4 ^ i * 4 = rw (add-one i) (pow-suc 4 i) in
       let larger : 4 ^ (i + 1) ≤ 4 ^ unitPlaces = pow-le-pow-right {n = 4} (omega arith) {j = unitPlaces} (omega (arith, t .few)) in
       record {
-        so = put-turn (t .so) 1 (omega arith) (data-turn list (from + i) (k - i) (omega arith) (omega arith)) wrote;
+        so = put-turn (t .so) 1 (omega arith) (data-part list (from + i) (k - i) (omega arith) (omega arith)) wrote;
         few = t .few;
         inside = inside;
         fields-are = sym (fields-snoc list from i (omega arith) ∙ ap₂ _+_ (sym (t .fields-are)) (ap₂ _*_ (sym (t .scale-is)) (sym ef)));
@@ -253,7 +244,7 @@ pub fields-end : {list : List ℕ} {from k at : ℕ} {out₀ out : List ℕ} {to
 fields-end {list} {from} {k} {i = i} t all =
     let is : k ≡ i = omega (arith, t .so .most) in
     record {
-      wrote = put-end (t .so) all (data-none list);
+      wrote = put-end (t .so) all (data-part-none list);
       fields = rw is (t .fields-are);
       scale = t .scale-is ∙ ap (λ (n : ℕ). 4 ^ n) (sym (part-length list from k (t .inside) ∙ is));
     }

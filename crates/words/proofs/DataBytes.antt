@@ -8,7 +8,7 @@ use native.Mathlib.Omega.{arith}
 use lib.Count.{leadingZeros, leading-length}
 use lib.Pow.{pow-mono}
 use lib.Dec.{eqb}
-use lib.ListN.{length, take, drop, length-append, length-drop, length-map}
+use lib.ListN.{length, getD, take, drop, length-append, length-drop, length-map}
 use lib.Seq.{take-at, drop-at, take-add, length-take-le}
 use borrow.Author.Tests.{lt-ltb, le-ltb, eq-eqb, eqb-true}
 use Rattle.meaning.specs.Answer.{given}
@@ -16,12 +16,13 @@ use Rattle.meaning.specs.Limits.{fault, numberLimit}
 use Rattle.meaning.specs.Lists.{sum, joined}
 use Rattle.meaning.specs.Bytes.{bytesOf, numberOf}
 use Rattle.meaning.specs.DataBytes.{byteLength, fewest, dataBytes, dataIn}
-use Rattle.meaning.specs.Places.{Below}
+use Rattle.meaning.specs.Places.{Below, part}
 use Rattle.meaning.proofs.Answers.{Faulty, bind-given, need-given, bind-faulty, need-faulty}
 use Rattle.meaning.proofs.Bounds.{below-nil, below-cons, below-append, below-take, below-drop}
 use Rattle.meaning.proofs.Tests.{by-order}
 use Rattle.words.proofs.Bytes.{bytes-length, bytes-small, number-bytes, number-small, bytes-number}
 use Rattle.leaves.proofs.Joined.{joined-append}
+use Rattle.leaves.proofs.Parts.{part-cons}
 
 -- ---- how many bytes hold a number
 -- x lies between the powers that its length says
@@ -60,6 +61,15 @@ few-number x h = number-bytes (byteLength x) x (held x .above h)
 pub data-cons : (x : ℕ) (xs : List ℕ) → dataBytes (x ∷ xs) ≡ fewest x ++ dataBytes xs
 unfolding dataBytes joined
 data-cons x xs = refl
+
+-- the data of a part of a list: its first number's, and the others'
+pub data-part : (xs : List ℕ) (from n : ℕ) → 0 < n → from + n ≤ length xs
+    → dataBytes (part xs from n) ≡ fewest (getD xs from 0) ++ dataBytes (part xs (from + 1) (n - 1))
+data-part xs from n some inside = rw (part-cons xs from n some inside) (data-cons (getD xs from 0) (part xs (from + 1) (n - 1)))
+
+pub data-part-none : (xs : List ℕ) (from : ℕ) → dataBytes (part xs from 0) ≡ []
+unfolding dataBytes joined
+data-part-none xs from = refl
 
 pub data-append : (xs ys : List ℕ) → dataBytes (xs ++ ys) ≡ dataBytes xs ++ dataBytes ys
 unfolding dataBytes

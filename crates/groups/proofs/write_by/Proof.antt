@@ -8,7 +8,7 @@ use Rattle.meaning.specs.Places.{part}
 use Rattle.leaves.proofs.Putting.{wrote-past}
 use Rattle.groups.specs.Layouts.{layoutOf}
 use Rattle.groups.specs.Parts.{groupsOf}
-use Rattle.groups.proofs.Pieces.{most-some, groups-none, groups-size}
+use Rattle.groups.proofs.Pieces.{groups-none, groups-size}
 use Rattle.groups.proofs.Puts.{PutSo, put-start, put-turn, put-end, put-long, form-fields, size-is, Turn, groups-turn, groups-room}
 use Rattle.groups.proofs.Puts.{fields-low, fields-as, group-laid}
 use borrow.Author.Needs.{needs}
@@ -106,7 +106,7 @@ loop-less : tie.Need-loop-less Inv-loop μ-loop
 loop-less c =
     let count : At tie.After-lesser = search in
     let turn : At tie.In-loop = search in
-    omega (arith, next-group count .many, most-some (form-fields (start-of count .args .form)), turn .loop-test .taken)
+    omega (arith, next-group count .many, form-fields (start-of count .args .form) .any, turn .loop-test .taken)
 
 same-length : tie.Need-same-length Inv-loop μ-loop
 same-length c = put-long (c .before .loop .inv .0)

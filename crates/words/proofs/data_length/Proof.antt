@@ -1,15 +1,13 @@
 -- The lengths of the first i numbers, and what is left. Assumes nothing.
 use Prim.Native.Nat.{ℕ, _+_, _-_, _*_, _^_, _≤_, _<_}
-use mathlib.Core.Path.{_≡_, refl}
+use mathlib.Core.Path.{_≡_}
 use mathlib.Core.List.{List}
 use native.Mathlib.Nat.{add-zero, add-assoc, zero-add, sub-zero}
 use native.Mathlib.Omega.{arith}
 use lib.ListN.{length, length-append, getD}
 use Rattle.meaning.specs.DataBytes.{byteLength, fewest, dataBytes}
-use Rattle.meaning.specs.Lists.{joined}
 use Rattle.meaning.specs.Places.{part}
-use Rattle.leaves.proofs.Parts.{part-cons}
-use Rattle.words.proofs.DataBytes.{held, few-length, data-cons}
+use Rattle.words.proofs.DataBytes.{held, few-length, data-part, data-part-none}
 use borrow.Author.Needs.{needs}
 use Rattle.words.proofs.data_length.Statement.{statement}
 use Rattle.words.proofs.data_length.Tie as tie
@@ -18,12 +16,11 @@ use Rattle.words.proofs.data_length.Tie as tie
 abbrev long : List ℕ → ℕ → ℕ → ℕ
 long list from n = length (dataBytes (part list from n))
 
-long-next : (list : List ℕ) (from n : ℕ) → 0 + 1 ≤ n → from + n ≤ length list
+long-next : (list : List ℕ) (from n : ℕ) → 0 < n → from + n ≤ length list
     → long list from n ≡ byteLength (getD list from 0) + long list (from + 1) (n - 1)
 long-next list from n some inside =
     let x = getD list from 0 in
-    let rest = part list (from + 1) (n - 1) in
-    rw (part-cons list from n (omega arith) inside, data-cons x rest, length-append (fewest x) (dataBytes rest), few-length x)
+    rw (data-part list from n some inside, length-append (fewest x) (dataBytes (part list (from + 1) (n - 1))), few-length x)
 
 -- a number more
 long-turn : (list : List ℕ) (first n i size l whole : ℕ) → i < n → first + n ≤ length list → l ≡ byteLength (getD list (first + i) 0)
@@ -33,10 +30,6 @@ long-turn list first n i size l whole more inside el so =
     let left : n - i - 1 ≡ n - (i + 1) = omega arith in
     let same : long list (first + i + 1) (n - i - 1) ≡ long list (first + (i + 1)) (n - (i + 1)) = rw (add-assoc first i 1, left) in
     omega arith
-
-long-none : (list : List ℕ) (from : ℕ) → long list from 0 ≡ 0
-unfolding dataBytes joined
-long-none list from = refl
 
 abbrev Inv-loop : tie.InvT-loop
 Inv-loop list n first size₀ i₀ size i =
@@ -81,7 +74,7 @@ returns c =
     let list = start .args .list .now in
     let (most, inside, few, small, so) = l .inv in
     let none : start .args .n - l .i ≡ 0 = omega arith in
-    let left : long list (start .args .from .number + l .i) (start .args .n - l .i) ≡ 0 = rw none (long-none list (start .args .from .number + l .i)) in
+    let left : long list (start .args .from .number + l .i) (start .args .n - l .i) ≡ 0 = rw (none, data-part-none) in
     omega arith
 
 add-size : tie.Need-add-size Inv-loop μ-loop

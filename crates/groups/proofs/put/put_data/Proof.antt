@@ -3,7 +3,8 @@ use Prim.Native.Nat.{_+_, _-_}
 use native.Mathlib.Omega.{arith}
 use lib.ListN.{getD}
 use Rattle.groups.specs.Parts.{dataOf}
-use Rattle.groups.proofs.Puts.{PutSo, put-start, put-turn, put-end, put-long, put-few, data-none, data-turn, data-bound}
+use Rattle.words.proofs.DataBytes.{data-part, data-part-none}
+use Rattle.groups.proofs.Puts.{PutSo, put-start, put-turn, put-end, put-long, put-few, data-bound}
 use borrow.Author.Needs.{needs}
 use Rattle.groups.proofs.put.put_data.Statement.{statement}
 use Rattle.groups.proofs.put.put_data.Tie as tie
@@ -41,7 +42,7 @@ loop-again c =
     let l = turn .before .loop in
     let a = start .args in
     let more = turn .loop-test .taken in
-    let next = data-turn (a .list .now) (a .from .number + l .i) (a .n - l .i) (omega arith) (omega (arith, start .pre .0)) in
+    let next = data-part (a .list .now) (a .from .number + l .i) (a .n - l .i) (omega arith) (omega (arith, start .pre .0)) in
     put-turn (l .inv) 1 (omega arith) next (put-few (getD (a .list .now) (a .from .number + l .i) 0) (put .put-fewest .ensures))
 
 same-length : tie.Need-same-length Inv-loop μ-loop
@@ -50,7 +51,7 @@ same-length c = put-long (c .before .loop .inv)
 returns : tie.Need-returns Inv-loop μ-loop
 returns c =
     let start : At tie.Start = search in
-    put-end (c .before .loop .inv) (c .loop-test .left) (data-none (start .args .list .now))
+    put-end (c .before .loop .inv) (c .loop-test .left) (data-part-none (start .args .list .now))
 
 pub put-data-spec : {M : Type 1} → statement M
 put-data-spec =

@@ -1,4 +1,4 @@
--- `is_code` tells the codes, 1 to 7. Assumes nothing.
+-- `is_code` tells the codes, 1 to the last. Assumes nothing.
 use Rattle.judge.proofs.StageLaws.{code-low, code-test}
 use Rattle.judge.proofs.stage.is_code.Statement.{statement}
 use Rattle.judge.proofs.stage.is_code.Tie as tie
