@@ -34,20 +34,16 @@ module _ (v : Verdict) where
 
 -- ---- a verdict with tallies
 module _ (b : Verdict × Tally) where
-  pub tallies-given : (t : Tally) → (passed, t) ≡ b → Tallies b 0 0 (t .passed) (t .failed) (t .unended)
+  pub tallies-given : (t : Tally) → (passed, t) ≡ b → Tallies b 0 0 t
   tallies-given t e = record {
     returned = ap (λ (x : Verdict × Tally). refusal (x .0)) e;
     blamed = ap (λ (x : Verdict × Tally). faulty (x .0)) e;
-    passed = ap (λ (x : Verdict × Tally). x .1 .passed) e;
-    failed = ap (λ (x : Verdict × Tally). x .1 .failed) e;
-    unended = ap (λ (x : Verdict × Tally). x .1 .unended) e;
+    tallies = ap (λ (x : Verdict × Tally). x .1) e;
   }
 
-  pub tallies-none : (e k r : ℕ) → (blamed e k, noTally) ≡ b → r ≡ e → Tallies b r k 0 0 0
+  pub tallies-none : (e k r : ℕ) → (blamed e k, noTally) ≡ b → r ≡ e → Tallies b r k noTally
   tallies-none e k r q h = record {
     returned = h ∙ ap (λ (x : Verdict × Tally). refusal (x .0)) q;
     blamed = ap (λ (x : Verdict × Tally). faulty (x .0)) q;
-    passed = ap (λ (x : Verdict × Tally). x .1 .passed) q;
-    failed = ap (λ (x : Verdict × Tally). x .1 .failed) q;
-    unended = ap (λ (x : Verdict × Tally). x .1 .unended) q;
+    tallies = ap (λ (x : Verdict × Tally). x .1) q;
   }

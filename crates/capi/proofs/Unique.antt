@@ -6,6 +6,7 @@ use lib.ListN.{length}
 use Rattle.meaning.specs.Answer.{Answer, number}
 use Rattle.meaning.specs.Operations.{writeApart, check, readSheet, lookSheet, countBoard}
 use Rattle.meaning.specs.Plan.{judge, worstSize}
+use Rattle.meaning.specs.declared.Tally.{Tally}
 use Rattle.capi.specs.Told.{Tells, TellsList, Blames, Tallies, Fetches}
 
 -- ---- by what is told
@@ -46,14 +47,8 @@ one-lookup sheet k place = one-tells (lookSheet sheet k place)
 pub one-fetch : (sheet : List ℕ) (k r r′ from from′ n n′ : ℕ) → Fetches sheet k r from n → Fetches sheet k r′ from′ n′ → (r ≡ r′) × (from ≡ from′) × (n ≡ n′)
 one-fetch sheet k r r′ from from′ n n′ e f = (e .returned ∙ sym (f .returned), e .offset ∙ sym (f .offset), e .size ∙ sym (f .size))
 
-pub one-board : (sheet : List ℕ) (work r r′ k k′ p p′ f f′ u u′ : ℕ)
-    → Tallies (countBoard sheet work) r k p f u
-    → Tallies (countBoard sheet work) r′ k′ p′ f′ u′
-    → (r ≡ r′) × (k ≡ k′) × (p ≡ p′) × (f ≡ f′) × (u ≡ u′)
-one-board sheet work r r′ k k′ p p′ f f′ u u′ e g = (
-  e .returned ∙ sym (g .returned),
-  e .blamed ∙ sym (g .blamed),
-  e .passed ∙ sym (g .passed),
-  e .failed ∙ sym (g .failed),
-  e .unended ∙ sym (g .unended),
-)
+pub one-board : (sheet : List ℕ) (work r r′ k k′ : ℕ) (t t′ : Tally)
+    → Tallies (countBoard sheet work) r k t
+    → Tallies (countBoard sheet work) r′ k′ t′
+    → (r ≡ r′) × (k ≡ k′) × (t ≡ t′)
+one-board sheet work r r′ k k′ t t′ e f = (e .returned ∙ sym (f .returned), e .blamed ∙ sym (f .blamed), e .tallies ∙ sym (f .tallies))

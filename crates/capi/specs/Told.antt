@@ -39,12 +39,10 @@ pub record Blames (v : Verdict) (r k : ℕ) : Type 0 where
   pub blamed : k ≡ faulty v
 
 -- the column at fault and the tallies are told
-pub record Tallies (b : Verdict × Tally) (r k p f u : ℕ) : Type 0 where
+pub record Tallies (b : Verdict × Tally) (r k : ℕ) (t : Tally) : Type 0 where
   pub returned : r ≡ refusal (b .0)
   pub blamed : k ≡ faulty (b .0)
-  pub passed : p ≡ b .1 .passed
-  pub failed : f ≡ b .1 .failed
-  pub unended : u ≡ b .1 .unended
+  pub tallies : t ≡ b .1
 
 -- the offset that is told with a body
 abbrev pub offsetOf : Answer (List ℕ) → ℕ → ℕ

@@ -186,8 +186,8 @@ pub extern "C" fn pelluvion_board(
     failed: &mut usize,
     unended: &mut usize,
 ) -> u32
-    ensures { λ r. ⌜ Tallies (countBoard (now (sheet .entry)) (length (now (work .entry)))) r (now (column .exit)) (now (passed .exit))
-        (now (failed .exit)) (now (unended .exit)) ⌝ }
+    ensures { λ r. ⌜ Tallies (countBoard (now (sheet .entry)) (length (now (work .entry)))) r (now (column .exit))
+        (record { passed = now (passed .exit); failed = now (failed .exit); unended = now (unended .exit) }) ⌝ }
 {
     let counted = board(sheet, work);
     match counted {

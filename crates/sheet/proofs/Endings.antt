@@ -1,86 +1,82 @@
--- Endings counted one after the other: what is still to be counted, counted from here, is the whole. Assumes nothing.
+-- Endings counted one after the other: the tallies of the first endings, each of which is counted once. Assumes nothing.
 use Prim.Native.Nat.{ℕ, _+_, _≤_, _<_}
 use mathlib.Core.Path.{_≡_, refl, sym, ap, _∙_}
-use mathlib.Core.Bool.{Bool, true, false, _&&_, cond}
-use mathlib.Core.List.{List, []}
-use native.Mathlib.Nat.{add-zero}
+use mathlib.Core.Bool.{Bool, true, false}
+use mathlib.Core.List.{List, [], _∷_, _++_}
 use native.Mathlib.Numerals.{add-one}
 use native.Mathlib.Omega.{arith}
 use lib.Dec.{leb, eqb}
-use lib.ListN.{length, getD, take, drop, length-take, drop-of-length-le}
-use lib.Seq.{drop-cons, getD-take, length-take-le}
-use borrow.Author.Tests.{le-leb, lt-leb, ne-eqb}
+use lib.ListN.{length, getD, take, length-take}
+use lib.Seq.{take-suc, take-all, getD-take, length-take-le}
+use borrow.Author.Tests.{le-leb, lt-leb, ne-eqb, eqb-true, eqb-false}
 use Rattle.meaning.specs.Answer.{passed, blamed}
 use Rattle.meaning.specs.Limits.{badBoard}
 use Rattle.meaning.specs.Lists.{all}
 use Rattle.meaning.specs.Operations.{count, tallyOf, noTally}
 use Rattle.meaning.specs.declared.Tally.{Tally}
+use Rattle.meaning.proofs.Tests.{by-test}
 use Rattle.table.proofs.Lists.{HoldBelow, hold-turn, hold-fail, hold-end}
-use Rattle.sheet.specs.Board.{withEnding, endingsTold}
+use Rattle.sheet.specs.Board.{total, addTally, withEnding, endingsTold}
+
+-- ---- tallies are the same where each is
+record Same (t u : Tally) : Type 0 where
+  passed : t .passed ≡ u .passed
+  failed : t .failed ≡ u .failed
+  unended : t .unended ≡ u .unended
+
+same : {t u : Tally} → Same t u → t ≡ u
+same s = λ i. record { passed = s .passed i; failed = s .failed i; unended = s .unended i }
+
+count-append : (test : ℕ → Bool) (xs ys : List ℕ) → count test (xs ++ ys) ≡ count test xs + count test ys
+unfolding count
+count-append test [] ys = omega arith
+count-append test (x ∷ xs) ys = omega (arith, count-append test xs ys)
+
+-- the tallies of one list and then another
+tally-append : (xs ys : List ℕ) → tallyOf (xs ++ ys) ≡ addTally (tallyOf xs) (tallyOf ys)
+unfolding tallyOf
+tally-append xs ys = same (record { passed = count-append _ xs ys; failed = count-append _ xs ys; unended = count-append _ xs ys })
 
 -- ---- one ending more
 module _ (t : Tally) (e : ℕ) where
-  p₀ : t .passed ≡ t .passed + 0
-  p₀ = sym (add-zero (t .passed))
-
-  f₀ : t .failed ≡ t .failed + 0
-  f₀ = sym (add-zero (t .failed))
-
-  u₀ : t .unended ≡ t .unended + 0
-  u₀ = sym (add-zero (t .unended))
-
   pub ends-passed : e ≡ 0 → record { passed = t .passed + 1; failed = t .failed; unended = t .unended } ≡ withEnding t e
-  ends-passed h = rw h (λ i. record { passed = t .passed + 1; failed = f₀ i; unended = u₀ i })
+  unfolding tallyOf count
+  ends-passed h = rw h (same (omega arith))
 
   pub ends-never : e ≡ 256 → record { passed = t .passed; failed = t .failed; unended = t .unended + 1 } ≡ withEnding t e
-  ends-never h = rw h (λ i. record { passed = p₀ i; failed = f₀ i; unended = t .unended + 1 })
+  unfolding tallyOf count
+  ends-never h = rw h (same (omega arith))
 
-  pub ends-failed : (e ≡ 0 → ⊥) → (e ≡ 256 → ⊥) → e ≤ 256 → record { passed = t .passed; failed = t .failed + 1; unended = t .unended } ≡ withEnding t e
-  ends-failed a b h =
-      rw (ne-eqb 0 e (λ q. a (sym q)), ne-eqb 256 e (λ q. b (sym q)), le-leb 1 e (omega arith), le-leb e 255 (omega arith))
-      (λ i. record { passed = p₀ i; failed = t .failed + 1; unended = u₀ i })
+  pub ends-failed : (e ≡ 0 → ⊥) → (e ≡ 256 → ⊥) → e ≤ 256
+      → record { passed = t .passed; failed = t .failed + 1; unended = t .unended } ≡ withEnding t e
+  unfolding tallyOf count
+  ends-failed z n h =
+      rw (ne-eqb 0 e (λ q. z (sym q)), ne-eqb 256 e (λ q. n (sym q)), le-leb 1 e (omega arith), le-leb e 255 (omega arith)) (same (omega arith))
+
+  -- whichever it is, one job more is counted
+  pub one-more : e ≤ 256 → total (withEnding t e) ≡ total t + 1
+  one-more h =
+      by-test (eqb 0 e) (λ z. ap total (sym (ends-passed (sym (eqb-true 0 e z)))) ∙ omega arith)
+      (λ z. by-test (eqb 256 e) (λ n. ap total (sym (ends-never (sym (eqb-true 256 e n)))) ∙ omega arith)
+      (λ n. ap total (sym (ends-failed (λ q. eqb-false 0 e z (sym q)) (λ q. eqb-false 256 e n (sym q)) h)) ∙ omega arith))
 
 -- ---- of the first n numbers of a slice those below i are counted
 pub record Tallying (w : List ℕ) (n : ℕ) (t : Tally) (i : ℕ) : Type 0 where
   pub room : n ≤ length w
-  pub passed : count (eqb 0) (take n w) ≡ t .passed + count (eqb 0) (drop i (take n w))
-  pub failed : count (λ e. leb 1 e && leb e 255) (take n w) ≡ t .failed + count (λ e. leb 1 e && leb e 255) (drop i (take n w))
-  pub unended : count (eqb 256) (take n w) ≡ t .unended + count (eqb 256) (drop i (take n w))
+  pub counted : t ≡ tallyOf (take i (take n w))
+  pub many : total t ≡ i
   pub ends : HoldBelow (λ e. leb e 256) (take n w) i
-  pub few : (t .passed ≤ i) × (t .failed ≤ i) × (t .unended ≤ i)
-
-count-next : (test : ℕ → Bool) (xs : List ℕ) (i : ℕ) → i < length xs → count test (drop i xs) ≡ cond (test (getD xs i 0)) 1 0 + count test (drop (i + 1) xs)
-unfolding count
-count-next test xs i h = ap (count test) (drop-cons xs i 0 h) ∙ rw add-one
-
--- one more of one test
-count-turn : (test : ℕ → Bool) (xs : List ℕ) (i m : ℕ) → i < length xs → count test xs ≡ m + count test (drop i xs)
-    → count test xs ≡ m + cond (test (getD xs i 0)) 1 0 + count test (drop (i + 1) xs)
-count-turn test xs i m h so = omega (arith, so, count-next test xs i h)
-
-cond-most : (b : Bool) → cond b 1 0 ≤ 1
-cond-most true = omega arith
-cond-most false = omega arith
 
 pub tally-first : {w : List ℕ} {n : ℕ} → n ≤ length w → Tallying w n noTally 0
-tally-first room =
-    record { room = room; passed = omega arith; failed = omega arith; unended = omega arith; ends = refl; few = (omega arith, omega arith, omega arith) }
+unfolding tallyOf count
+tally-first room = record { room = room; counted = refl; many = refl; ends = refl }
 
 module _ {w : List ℕ} {n : ℕ} {t : Tally} {i : ℕ} (so : Tallying w n t i) where
-  tally-all : drop i (take n w) ≡ [] → t ≡ tallyOf (take n w)
-  unfolding tallyOf count
-  tally-all none =
-      let xs = take n w in
-      let p : t .passed ≡ count (eqb 0) xs = omega (arith, so .passed, ap (count (eqb 0)) none) in
-      let f : t .failed ≡ count (λ e. leb 1 e && leb e 255) xs = omega (arith, so .failed, ap (count (λ e. leb 1 e && leb e 255)) none) in
-      let u : t .unended ≡ count (eqb 256) xs = omega (arith, so .unended, ap (count (eqb 256)) none) in
-      λ i. record { passed = p i; failed = f i; unended = u i }
-
   pub tally-end : n ≤ i → (passed, t) ≡ endingsTold (take n w)
   tally-end h =
       let over : length (take n w) ≤ i = omega (arith, length-take n w) in
       let yes : all (λ e. leb e 256) (take n w) ≡ true = hold-end (λ e. leb e 256) (take n w) i (so .ends) over in
-      rw yes (ap (λ (r : Tally). (passed, r)) (tally-all (drop-of-length-le (take n w) {i = i} over)))
+      rw yes (ap (λ (r : Tally). (passed, r)) (so .counted ∙ ap tallyOf (take-all i (take n w) over)))
 
   module _ (h : i < n) where
     there : i < length (take n w)
@@ -88,15 +84,14 @@ module _ {w : List ℕ} {n : ℕ} {t : Tally} {i : ℕ} (so : Tallying w n t i) 
 
     turned : getD (take n w) i 0 ≤ 256 → Tallying w n (withEnding t (getD (take n w) i 0)) (i + 1)
     turned l =
-        let e = getD (take n w) i 0 in
-        let (p, f, u) = so .few in
+        let xs = take n w in
+        let e = getD xs i 0 in
+        let next : take i xs ++ (e ∷ []) ≡ take (i + 1) xs = rw add-one (sym (take-suc xs i 0 there)) in
         record {
           room = so .room;
-          passed = count-turn (eqb 0) (take n w) i (t .passed) there (so .passed);
-          failed = count-turn (λ e. leb 1 e && leb e 255) (take n w) i (t .failed) there (so .failed);
-          unended = count-turn (eqb 256) (take n w) i (t .unended) there (so .unended);
-          ends = hold-turn (λ e. leb e 256) (take n w) 0 i (so .ends) there (le-leb e 256 l);
-          few = (omega (arith, p, cond-most (eqb 0 e)), omega (arith, f, cond-most (leb 1 e && leb e 255)), omega (arith, u, cond-most (eqb 256 e)));
+          counted = ap (λ (u : Tally). withEnding u e) (so .counted) ∙ sym (tally-append (take i xs) (e ∷ [])) ∙ ap tallyOf next;
+          many = omega (arith, one-more t e l, so .many);
+          ends = hold-turn (λ e. leb e 256) xs 0 i (so .ends) there (le-leb e 256 l);
         }
 
     pub tally-turn : getD w i 0 ≤ 256 → {t′ : Tally} → t′ ≡ withEnding t (getD w i 0) → Tallying w n t′ (i + 1)

@@ -1,46 +1,33 @@
 -- The three tallies of a board that keeps the rules sum to the count of its columns 0 and 1. Assumes only the laws of the codes.
-use Prim.Native.Nat.{ℕ, _+_, _≤_}
+use Prim.Native.Nat.{ℕ}
 use mathlib.Core.Path.{_≡_, refl, sym, ap, _∙_}
-use mathlib.Core.Bool.{true, false, _&&_, cond}
+use mathlib.Core.Bool.{true}
 use mathlib.Core.List.{List, [], _∷_}
 use native.Mathlib.Omega.{arith}
-use lib.Dec.{leb, eqb}
+use lib.Dec.{leb}
 use lib.ListN.{length}
-use borrow.Author.Tests.{le-leb, leb-true, eqb-true, eqb-false}
+use borrow.Author.Tests.{leb-true}
 use Rattle.meaning.specs.Answer.{Verdict, passed, blamed, ask}
 use Rattle.meaning.specs.Limits.{badBoard}
 use Rattle.meaning.specs.Lists.{all}
-use Rattle.meaning.specs.Operations.{check, numbersAt, boardHolds, boardVerdict, count, tallyOf, tallied, countBoard}
+use Rattle.meaning.specs.Operations.{check, numbersAt, boardHolds, boardVerdict, count, tallyOf, noTally, tallied, countBoard}
 use Rattle.meaning.specs.Places.{Below}
 use Rattle.meaning.specs.Sheet.{columnAt}
 use Rattle.meaning.specs.declared.Tally.{Tally}
-use Rattle.meaning.proofs.Tests.{both-true, by-test}
+use Rattle.meaning.proofs.Tests.{both-true}
 use Rattle.table.proofs.InTurn.{not-passed}
 use Rattle.table.proofs.Sounds.{ask-passed, then-passed}
-use Rattle.sheet.specs.Board.{jobsHold}
+use Rattle.sheet.specs.Board.{jobsHold, total}
 use Rattle.sheet.proofs.BoardLaws.{board-apart, board-second}
+use Rattle.sheet.proofs.Endings.{one-more}
 use Rattle.sheet.proofs.Passing.{numbers-many}
-
-abbrev pub total : Tally → ℕ
-total t = t .passed + t .failed + t .unended
-
--- an ending is one of the three
-one-each : (e : ℕ) → e ≤ 256 → cond (eqb 0 e) 1 0 + cond (leb 1 e && leb e 255) 1 0 + cond (eqb 256 e) 1 0 ≡ 1
-one-each e h =
-    by-test (eqb 0 e) (λ t. rw (← (eqb-true 0 e t)))
-    (λ z. by-test (eqb 256 e) (λ t. rw (← (eqb-true 256 e t)))
-    (λ y. between (λ q. eqb-false 0 e z (sym q)) (λ q. eqb-false 256 e y (sym q)) z y))
-  where
-    between : (e ≡ 0 → ⊥) → (e ≡ 256 → ⊥) → eqb 0 e ≡ false → eqb 256 e ≡ false
-        → cond (eqb 0 e) 1 0 + cond (leb 1 e && leb e 255) 1 0 + cond (eqb 256 e) 1 0 ≡ 1
-    between a b z y = rw (z, y, le-leb 1 e (omega arith), le-leb e 255 (omega arith))
 
 total-length : (xs : List ℕ) → all (λ e. leb e 256) xs ≡ true → total (tallyOf xs) ≡ length xs
 unfolding all tallyOf count
 total-length [] h = refl
 total-length (x ∷ xs) h =
     let (a, b) = both-true (leb x 256) (all (λ e. leb e 256) xs) h in
-    omega (arith, one-each x (leb-true x 256 a), total-length xs b)
+    omega (arith, one-more noTally x (leb-true x 256 a), total-length xs b)
 
 tallied-passed : (v : Verdict) (xs : List ℕ) (t : Tally) → tallied v xs ≡ (passed, t) → (v ≡ passed) × (tallyOf xs ≡ t)
 tallied-passed passed xs t e = (refl, ap (λ (x : Verdict × Tally). x .1) e)

@@ -1,14 +1,14 @@
 -- The board's rules taken apart, and endings counted one by one.
 use Prim.Native.Nat.{ℕ, _+_, _≤_, _<_, _^_}
 use mathlib.Core.Path.{_≡_}
-use mathlib.Core.Bool.{Bool, _&&_, cond}
-use mathlib.Core.List.{List}
+use mathlib.Core.Bool.{Bool, _&&_}
+use mathlib.Core.List.{List, [], _∷_}
 use lib.Dec.{leb, eqb}
 use lib.ListN.{length, take}
 use Rattle.meaning.specs.Answer.{Verdict, passed, ask}
 use Rattle.meaning.specs.Limits.{rising, badBoard}
 use Rattle.meaning.specs.Lists.{all, differ}
-use Rattle.meaning.specs.Operations.{check, numbersAt, tallied}
+use Rattle.meaning.specs.Operations.{check, numbersAt, tallyOf, tallied}
 use Rattle.meaning.specs.Sheet.{columnsOf, columnAt, columnCount}
 use Rattle.meaning.specs.declared.Tally.{Tally}
 
@@ -33,17 +33,18 @@ jobsHold sheet =
 abbrev pub endingsTold : List ℕ → Verdict × Tally
 endingsTold endings = tallied (ask (all (λ e. leb e 256) endings) badBoard) endings
 
+-- how many jobs the tallies count
+abbrev pub total : Tally → ℕ
+total t = t .passed + t .failed + t .unended
+
+-- tallies added up
+abbrev pub addTally : Tally → Tally → Tally
+addTally t u = record { passed = t .passed + u .passed; failed = t .failed + u .failed; unended = t .unended + u .unended }
+
 -- an ending, and tallies that can be one more
 pub record Countable (t : Tally) (ending : ℕ) : Type 0 where
   pub most : ending ≤ 256
-  pub passed : t .passed + 1 < 2 ^ 64
-  pub failed : t .failed + 1 < 2 ^ 64
-  pub unended : t .unended + 1 < 2 ^ 64
+  pub room : total t + 1 < 2 ^ 64
 
 abbrev pub withEnding : Tally → ℕ → Tally
-withEnding t e =
-    record {
-      passed = t .passed + cond (eqb 0 e) 1 0;
-      failed = t .failed + cond (leb 1 e && leb e 255) 1 0;
-      unended = t .unended + cond (eqb 256 e) 1 0;
-    }
+withEnding t e = addTally t (tallyOf (e ∷ []))

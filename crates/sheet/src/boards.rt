@@ -57,33 +57,19 @@ pub fn jobs_hold(sheet: &[u8], work: &mut [u32]) -> bool
     differs_in(work, Place { number: 0 }, n)
 }
 
-// One ending more: 0 is passed, 1 to 255 failed, 256 never ended.
-fn with_ending(tally: Tally, ending: u32) -> Tally
+// One ending more: 0 is passed, 256 never ended, any other failed.
+fn with_ending(mut tally: Tally, ending: u32) -> Tally
     requires { ⌜ Countable tally ending ⌝ }
     ensures { λ r. ⌜ r ≡ withEnding tally ending ⌝ }
 {
     if ending == 0 {
-        let passed = tally.passed + 1;
-        return Tally {
-            passed,
-            failed: tally.failed,
-            unended: tally.unended,
-        };
+        tally.passed += 1;
+    } else if ending == NEVER_ENDED {
+        tally.unended += 1;
+    } else {
+        tally.failed += 1;
     }
-    if ending == NEVER_ENDED {
-        let unended = tally.unended + 1;
-        return Tally {
-            passed: tally.passed,
-            failed: tally.failed,
-            unended,
-        };
-    }
-    let failed = tally.failed + 1;
-    Tally {
-        passed: tally.passed,
-        failed,
-        unended: tally.unended,
-    }
+    tally
 }
 
 // The tallies of the first n numbers of work, where each is an ending.

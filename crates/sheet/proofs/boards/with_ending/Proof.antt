@@ -1,4 +1,5 @@
 -- `with_ending` counts by one of three. Assumes nothing.
+use native.Mathlib.Omega.{arith}
 use borrow.Author.Needs.{needs}
 use Rattle.sheet.proofs.Endings.{ends-passed, ends-never, ends-failed}
 use Rattle.sheet.proofs.boards.with_ending.Statement.{statement}
@@ -27,9 +28,9 @@ pub with-ending-spec : {M : Type 1} → statement M
 with-ending-spec =
     tie.close
     (tie.spec
-    (λ c. search needs)  -- add-passed
+    (λ c. search needs)  -- add-tally
+    (λ c. search needs)  -- add-tally-2
+    (λ c. search needs)  -- add-tally-3
     returns
-    (λ c. search needs)  -- add-unended
     returns-2
-    (λ c. search needs)  -- add-failed
     returns-3)
