@@ -68,10 +68,12 @@ uint32_t pelluvion_lookup(const uint8_t *sheet, size_t sheet_len, size_t column,
 /* Where a column's body stands in the sheet: `length` bytes from `offset` on. */
 uint32_t pelluvion_fetch(const uint8_t *sheet, size_t sheet_len, size_t column, size_t *offset, size_t *length);
 
-/* Counts the endings of a board: column 0 job numbers, column 1 endings.  Checks the sheet first, and names
-   the column at fault as the check does (0 for 12).  Work: 8 times the largest count. */
+/* Counts the endings of a board: column 0 job numbers, column 1 endings.  0 is passed, 124 killed (what GNU
+   coreutils' `timeout` ends with when it stopped a job), any other of 1 to 255 failed, 256 unended; the four
+   tallies sum to the count.  Checks the sheet first, and names the column at fault as the check does (0 for 12).
+   Work: 8 times the largest count. */
 uint32_t pelluvion_board(const uint8_t *sheet, size_t sheet_len, uint32_t *work, size_t work_len,
-                         size_t *column, size_t *passed, size_t *failed, size_t *unended);
+                         size_t *column, size_t *passed, size_t *failed, size_t *killed, size_t *unended);
 
 #ifdef __cplusplus
 }

@@ -130,7 +130,7 @@ def orders():
         bytes_of_plan, xs = bytes(15) if RANDOM.random() < 0.3 else fill(plan(2, kind)), numbers(kind, n)
         if column == 1 and RANDOM.random() < 0.7:
             kind, bytes_of_plan = 0, fill([RANDOM.choice(R.CODES)])
-            xs = [RANDOM.choice([0, 1, 124, 255, 256, 257]) for _ in xs]
+            xs = [RANDOM.choice([0, 1, 123, 124, 125, 255, 256, 257]) for _ in xs]
         if RANDOM.random() < 0.05:
             bytes_of_plan = fill(damaged(bytes_of_plan))
         made.append((RANDOM.randint(0, 2) if RANDOM.random() < 0.05 else kind, bytes_of_plan, n))
@@ -164,9 +164,9 @@ def case_sheet():
     says("fetch %s %d" % (shown, column), answer(lambda: R.fetch(sheet, column), lambda t: listed(sheet[t[0]:t[0] + t[1]])))
     kind, value = R.calls(sheet, column, call + 1)[call]
     says("call %s %d %d" % (shown, column, call), "%s %d" % ("given" if kind == "number" else kind, value))
-    tally = "record { passed = %d; failed = %d; unended = %d }"
+    tally = "record { passed = %d; failed = %d; killed = %d; unended = %d }"
     told = verdict(lambda: R.board(sheet, work), lambda t: "passed, " + tally % t)
-    says("countBoard %s %d" % (shown, work), "(%s)" % (told if told.startswith("passed") else told + ", " + tally % (0, 0, 0)))
+    says("countBoard %s %d" % (shown, work), "(%s)" % (told if told.startswith("passed") else told + ", " + tally % (0, 0, 0, 0)))
 
 
 def programs(given):
@@ -189,7 +189,7 @@ def case_programs():
     # kind 2; an unknown number in a plan, one after its end; differences of kind 0; a last byte of 0; the same in column 1
     whole += [changed(example, at, value) for at, value in ((2, 2), (4, 9), (6, 1), (2, 0), (29, 0))]
     whole += [changed(board, at, value) for at, value in ((26, 2), (27, 8), (len(board) - 1, 0))] + [changed(sheet(jobs, jobs), 26, 0)]
-    whole += [sheet(jobs, (kind, [1], endings)) for kind, endings in ((1, [0, 0, 0, 256]), (0, [0, 1, 255, 257]), (0, [0, 1, 255]))]
+    whole += [sheet(jobs, (kind, [1], endings)) for kind, endings in ((1, [0, 0, 0, 256]), (0, [123, 124, 125, 124]), (0, [0, 1, 255, 257]), (0, [0, 1, 255]))]
     whole += [sheet((kind, [1], xs), (0, [1], [0] * len(xs))) for kind, xs in ((1, []), (0, [3, 4]), (1, [3, 4, 4]))]
     whole += [sheet(*[(0, [18, 16, code % 7 + 1, 5], [LARGEST, code]) for code in range(12)]), sheet((0, [2], list(range(95, 107))))]
     whole.append(sheet((1, [17, 18, 1, 1], list(range(1, 1025))), (0, [18, 1, 1], 1024 * [256])))

@@ -1,5 +1,5 @@
 """A plain reading of the sheet document (01-scope.md), written from its text alone, with
-request P1 (02-change-requests.md): code 7, four-wise null suppression.
+requests P1 and P2 (02-change-requests.md): code 7, four-wise null suppression; 124 is a kill.
 
 It shares nothing with the proved code and is there to be compared with it.  Where the
 document leaves room, "Decisions on open questions" 1 to 13 hold and are named in comments.
@@ -536,15 +536,15 @@ def calls(sheet, column, k):
     return answers
 
 def board(sheet, work_len):
-    """(passed, failed, unended).  After a full check: 12."""
+    """(passed, failed, killed, unended).  After a full check: 12."""
     columns, lists = checked(sheet, work_len)
     if len(columns) < 2 or len(lists[0]) != len(lists[1]) or columns[0][0] != RISING:
         raise Refused(12)
     jobs, endings = lists[:2]
     if any(a == b for a, b in zip(jobs, jobs[1:])) or any(x > 256 for x in endings):
         raise Refused(12)
-    return (len([x for x in endings if x == 0]), len([x for x in endings if 1 <= x <= 255]),
-            len([x for x in endings if x == 256]))
+    killed = endings.count(124)             # request P2: for 124 alone, and failed is 1 to 255 without it
+    return endings.count(0), len([x for x in endings if 1 <= x <= 255]) - killed, killed, endings.count(256)
 
 # ------------------------------------------------------------ the two programs
 
@@ -574,4 +574,4 @@ def board_text(input_bytes):
         tallies = board(input_bytes, ALL_WORK)
     except Refused as e:
         return printed(["refused %d column %d" % (e.number, e.column)])
-    return printed(["passed %d" % tallies[0], "failed %d" % tallies[1], "unended %d" % tallies[2]])
+    return printed(["%s %d" % told for told in zip(("passed", "failed", "killed", "unended"), tallies)])

@@ -336,7 +336,7 @@ def random_sheet():
         lists.append(numbers)
     if rnd.random() < 0.3 and len(orders) >= 2:             # a board
         jobs = sorted(rnd.sample(range(5000), len(lists[1])))
-        lists[:2] = [jobs, [rnd.choice((0, 1, 255, 256)) for _ in jobs]]
+        lists[:2] = [jobs, [rnd.choice((0, 1, 123, 124, 125, 255, 256)) for _ in jobs]]
         orders[:2] = [(1, fill(random_tree(1)), len(jobs)), (0, fill(random_tree(0)), len(jobs))]
     return orders, lists, r.write(orders, sum(lists, []), WIDE_WORK, 65536)
 
@@ -374,6 +374,7 @@ def sheet_agrees(sheet, lists):
     else:
         count("boards")
         same("tallies", sum(tallies), len(lists[0]), sheet)
+        same("killed", tallies[2], sum(ending == 124 for ending in lists[1]), sheet)
         same("strictly rising", lists[0], sorted(set(lists[0])), sheet)
 
 

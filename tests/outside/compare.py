@@ -20,7 +20,7 @@ import machine
 import reading as r
 
 NAMES = ("judge", "worst", "write", "check", "read", "lookup", "fetch", "board")
-REQUEST, RESULT = struct.Struct("<IIQQII4I"), struct.Struct("<II4QQ")
+REQUEST, RESULT = struct.Struct("<IIQQII4I"), struct.Struct("<II5QQ")
 TROUBLE = {1: "an input changed", 2: "bytes before a slice changed", 4: "stopped by a signal (its number)"}
 CHUNK, SHOWN, ENOUGH = 1000, 5, 2000       # operations a driver; differences shown; when to stop
 
@@ -62,7 +62,7 @@ def expected(op):
         number, (answers, front) = 0, answered(op)
     except r.Refused as e:
         number, answers, front = e.number, (e.column if op.what in ("check", "board") else 0,), b""
-    answers = (answers + (0, 0, 0, 0))[:4]
+    answers = (answers + (0, 0, 0, 0, 0))[:5]
     return Result(number, 0, answers, front + bytes([op.fill]) * (op.out - len(front)))
 
 

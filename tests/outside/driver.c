@@ -12,7 +12,7 @@
 #include <sys/time.h>
 
 enum { JUDGE, WORST, WRITE, CHECK, READ, LOOKUP, FETCH, BOARD };
-enum { INPUTS = 4, WORK = INPUTS, OUT, ANSWER, ANSWERS = 4, SLOTS = ANSWER + ANSWERS };
+enum { INPUTS = 4, WORK = INPUTS, OUT, ANSWER, ANSWERS = 5, SLOTS = ANSWER + ANSWERS };
 enum { ROOM = 1 << 20, PAGE = 1 << 16, BEFORE = 64, SECONDS = 10 };
 enum { INPUT_CHANGED = 1, BEFORE_CHANGED = 2, SIGNALLED = 4 };
 
@@ -61,7 +61,7 @@ static void *lend(int slot, size_t bytes, int fill)
 
 static size_t answer_bytes(uint32_t operation, int i)
 {
-    static const int answers[] = {[JUDGE] = 0, 1, 1, 1, 1, 1, 2, 4};
+    static const int answers[] = {[JUDGE] = 0, 1, 1, 1, 1, 1, 2, 5};
     return i >= answers[operation] ? 0 : operation == LOOKUP ? sizeof(uint32_t) : sizeof(size_t);
 }
 
@@ -77,7 +77,7 @@ static uint32_t call(const struct request *q, void **in, uint32_t *work, void *o
     case READ: return pelluvion_read(in[0], bytes[0], q->a, work, q->work, out, q->out / 4, answer[0]);
     case LOOKUP: return pelluvion_lookup(in[0], bytes[0], q->a, q->b, answer[0]);
     case FETCH: return pelluvion_fetch(in[0], bytes[0], q->a, answer[0], answer[1]);
-    default: return pelluvion_board(in[0], bytes[0], work, q->work, answer[0], answer[1], answer[2], answer[3]);
+    default: return pelluvion_board(in[0], bytes[0], work, q->work, answer[0], answer[1], answer[2], answer[3], answer[4]);
     }
 }
 

@@ -32,7 +32,7 @@ def board_lists():
     if n > 1 and chance(8):
         at = rnd.randrange(1, n)
         jobs[at] = jobs[at - 1]
-    endings = [rnd.choice((0, 0, 0, 1, 124, 255, 256)) for _ in range(max(0, n - rnd.choice((1, -1)) * chance(8)))]
+    endings = [rnd.choice((0, 0, 0, 1, 123, 124, 124, 125, 255, 256)) for _ in range(max(0, n - rnd.choice((1, -1)) * chance(8)))]
     if endings and chance(8):
         endings[rnd.randrange(len(endings))] = rnd.choice((257, 512, MAX))
     contents = [jobs, sorted(endings) if kinds[1] else endings] + [numbers(kind, count()) for kind in kinds[2:]]

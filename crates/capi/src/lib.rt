@@ -184,10 +184,11 @@ pub extern "C" fn pelluvion_board(
     column: &mut usize,
     passed: &mut usize,
     failed: &mut usize,
+    killed: &mut usize,
     unended: &mut usize,
 ) -> u32
     ensures { λ r. ⌜ Tallies (countBoard (now (sheet .entry)) (length (now (work .entry)))) r (now (column .exit))
-        (record { passed = now (passed .exit); failed = now (failed .exit); unended = now (unended .exit) }) ⌝ }
+        (record { passed = now (passed .exit); failed = now (failed .exit); killed = now (killed .exit); unended = now (unended .exit) }) ⌝ }
 {
     let counted = board(sheet, work);
     match counted {
@@ -195,6 +196,7 @@ pub extern "C" fn pelluvion_board(
             *column = 0;
             *passed = tally.passed;
             *failed = tally.failed;
+            *killed = tally.killed;
             *unended = tally.unended;
             ACCEPTED
         }
@@ -202,6 +204,7 @@ pub extern "C" fn pelluvion_board(
             *column = k;
             *passed = 0;
             *failed = 0;
+            *killed = 0;
             *unended = 0;
             wide(e)
         }

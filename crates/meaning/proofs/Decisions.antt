@@ -159,9 +159,10 @@ d11-empty-board : countBoard (1 ∷ 2 ∷ entry 1 0 0 ++ entry 0 0 0) 0 ≡ (pas
 unfolding meaning
 d11-empty-board = refl
 
--- 0 is passed, 1 to 255 failed, 256 never ended
-d11-endings : countBoard (1 ∷ 2 ∷ entry 1 4 4 ++ (entry 0 4 5 ++ (1 ∷ 2 ∷ 3 ∷ 4 ∷ 0 ∷ 1 ∷ 128 ∷ 2 ∷ 0 ∷ []))) 32
-    ≡ (passed, record { passed = 2; failed = 1; unended = 1 })
+-- 0 is passed, 124 killed, any other of 1 to 255 failed, 256 never ended: of the endings 0, 1, 123, 124, 125, 255, 256, 0
+d11-endings : countBoard (1 ∷ 2 ∷ entry 1 8 8 ++ (entry 0 8 10
+    ++ (1 ∷ 2 ∷ 3 ∷ 4 ∷ 5 ∷ 6 ∷ 7 ∷ 8 ∷ 0 ∷ 1 ∷ 123 ∷ 124 ∷ 125 ∷ 255 ∷ 1 ∷ 128 ∷ 2 ∷ 0 ∷ []))) 64
+    ≡ (passed, record { passed = 2; failed = 4; killed = 1; unended = 1 })
 unfolding meaning
 d11-endings = refl
 
@@ -191,9 +192,9 @@ d12-over : listingText (1 ∷ 0 ∷ replicate 65535 0) ≡ text "refused 1 colum
 unfolding meaning
 d12-over = refl
 
--- a line for each tally, of the endings 0, 0, 0, 1, 255, 256
-d12-board : boardText (1 ∷ 2 ∷ entry 1 6 6 ++ (entry 0 6 8 ++ (1 ∷ 2 ∷ 3 ∷ 4 ∷ 5 ∷ 6 ∷ 0 ∷ 0 ∷ 0 ∷ 1 ∷ 255 ∷ 1 ∷ 128 ∷ 2 ∷ [])))
-    ≡ text "passed 3\nfailed 2\nunended 1\n"
+-- a line for each tally, of the endings 0, 0, 0, 1, 124, 255, 256
+d12-board : boardText (1 ∷ 2 ∷ entry 1 7 7 ++ (entry 0 7 9 ++ (1 ∷ 2 ∷ 3 ∷ 4 ∷ 5 ∷ 6 ∷ 7 ∷ 0 ∷ 0 ∷ 0 ∷ 1 ∷ 124 ∷ 255 ∷ 1 ∷ 128 ∷ 2 ∷ [])))
+    ≡ text "passed 3\nfailed 2\nkilled 1\nunended 1\n"
 unfolding meaning
 d12-board = refl
 

@@ -1,7 +1,7 @@
 -- The operations: what came in, to the one answer. Work is known by its length alone.
 -- Order on a sheet: 1; 2; each plan in turn, 3 before 4; 5; 6; 8; 7; 9; 12. On writing: 11; each plan in turn, 3 before 4; each list in turn 10; 8; 7.
 use Prim.Native.Nat.{ℕ, zero, suc, _+_, _*_}
-use mathlib.Core.Bool.{Bool, _&&_, cond}
+use mathlib.Core.Bool.{Bool, not, _&&_, cond}
 use mathlib.Core.List.{List, [], _∷_, map}
 use lib.Dec.{leb, ltb, eqb}
 use lib.ListN.{length, getD, take, drop}
@@ -116,17 +116,18 @@ unfoldable pub count : (ℕ → Bool) → List ℕ → ℕ
 count test [] = 0
 count test (x ∷ xs) = cond (test x) 1 0 + count test xs
 
--- ending 0 is passed, 1 to 255 failed, 256 never ended
+-- ending 0 is passed, 124 killed, any other of 1 to 255 failed, 256 never ended
 unfoldable pub tallyOf : List ℕ → Tally
 tallyOf endings =
     record {
       passed = count (eqb 0) endings;
-      failed = count (λ e. leb 1 e && leb e 255) endings;
+      failed = count (λ e. leb 1 e && (leb e 255 && not (eqb 124 e))) endings;
+      killed = count (eqb 124) endings;
       unended = count (eqb 256) endings;
     }
 
 abbrev pub noTally : Tally
-noTally = record { passed = 0; failed = 0; unended = 0 }
+noTally = record { passed = 0; failed = 0; killed = 0; unended = 0 }
 
 -- the verdict, and the tallies of a sheet that keeps the rules
 abbrev pub tallied : Verdict → List ℕ → Verdict × Tally

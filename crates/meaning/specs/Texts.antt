@@ -85,11 +85,12 @@ listingLines columns =
 unfoldable pub listingText : List ℕ → List ℕ
 listingText input = refusedOr (check input allWork) (listingLines (columnsOf input))
 
--- ---- the board: `passed`, `failed`, `unended`, a line each with its tally
+-- ---- the board: `passed`, `failed`, `killed`, `unended`, a line each with its tally
 unfoldable pub boardLines : Tally → List ℕ
 boardLines t =
     line (text "passed") (digits (t .passed) ∷ [])
-    ++ (line (text "failed") (digits (t .failed) ∷ []) ++ line (text "unended") (digits (t .unended) ∷ []))
+    ++ (line (text "failed") (digits (t .failed) ∷ [])
+    ++ (line (text "killed") (digits (t .killed) ∷ []) ++ line (text "unended") (digits (t .unended) ∷ [])))
 
 unfoldable pub boardText : List ℕ → List ℕ
 boardText input = refusedOr (countBoard input allWork .0) (boardLines (countBoard input allWork .1))

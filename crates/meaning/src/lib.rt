@@ -127,6 +127,7 @@ pub enum Checked {
 pub struct Tally {
     pub passed: usize,
     pub failed: usize,
+    pub killed: usize,
     pub unended: usize,
 }
 

@@ -22,10 +22,11 @@ use Rattle.sheet.specs.Board.{total, addTally, withEnding, endingsTold}
 record Same (t u : Tally) : Type 0 where
   passed : t .passed ≡ u .passed
   failed : t .failed ≡ u .failed
+  killed : t .killed ≡ u .killed
   unended : t .unended ≡ u .unended
 
 same : {t u : Tally} → Same t u → t ≡ u
-same s = λ i. record { passed = s .passed i; failed = s .failed i; unended = s .unended i }
+same s = λ i. record { passed = s .passed i; failed = s .failed i; killed = s .killed i; unended = s .unended i }
 
 count-append : (test : ℕ → Bool) (xs ys : List ℕ) → count test (xs ++ ys) ≡ count test xs + count test ys
 unfolding count
@@ -35,30 +36,37 @@ count-append test (x ∷ xs) ys = omega (arith, count-append test xs ys)
 -- the tallies of one list and then another
 tally-append : (xs ys : List ℕ) → tallyOf (xs ++ ys) ≡ addTally (tallyOf xs) (tallyOf ys)
 unfolding tallyOf
-tally-append xs ys = same (record { passed = count-append _ xs ys; failed = count-append _ xs ys; unended = count-append _ xs ys })
+tally-append xs ys =
+    same (record { passed = count-append _ xs ys; failed = count-append _ xs ys; killed = count-append _ xs ys; unended = count-append _ xs ys })
 
 -- ---- one ending more
 module _ (t : Tally) (e : ℕ) where
-  pub ends-passed : e ≡ 0 → record { passed = t .passed + 1; failed = t .failed; unended = t .unended } ≡ withEnding t e
+  pub ends-passed : e ≡ 0 → record { passed = t .passed + 1; failed = t .failed; killed = t .killed; unended = t .unended } ≡ withEnding t e
   unfolding tallyOf count
   ends-passed h = rw h (same (omega arith))
 
-  pub ends-never : e ≡ 256 → record { passed = t .passed; failed = t .failed; unended = t .unended + 1 } ≡ withEnding t e
+  pub ends-killed : e ≡ 124 → record { passed = t .passed; failed = t .failed; killed = t .killed + 1; unended = t .unended } ≡ withEnding t e
+  unfolding tallyOf count
+  ends-killed h = rw h (same (omega arith))
+
+  pub ends-never : e ≡ 256 → record { passed = t .passed; failed = t .failed; killed = t .killed; unended = t .unended + 1 } ≡ withEnding t e
   unfolding tallyOf count
   ends-never h = rw h (same (omega arith))
 
-  pub ends-failed : (e ≡ 0 → ⊥) → (e ≡ 256 → ⊥) → e ≤ 256
-      → record { passed = t .passed; failed = t .failed + 1; unended = t .unended } ≡ withEnding t e
+  pub ends-failed : (e ≡ 0 → ⊥) → (e ≡ 124 → ⊥) → (e ≡ 256 → ⊥) → e ≤ 256
+      → record { passed = t .passed; failed = t .failed + 1; killed = t .killed; unended = t .unended } ≡ withEnding t e
   unfolding tallyOf count
-  ends-failed z n h =
-      rw (ne-eqb 0 e (λ q. z (sym q)), ne-eqb 256 e (λ q. n (sym q)), le-leb 1 e (omega arith), le-leb e 255 (omega arith)) (same (omega arith))
+  ends-failed z k n h =
+      rw (ne-eqb 0 e (λ q. z (sym q)), ne-eqb 124 e (λ q. k (sym q)), ne-eqb 256 e (λ q. n (sym q)), le-leb 1 e (omega arith), le-leb e 255 (omega arith))
+      (same (omega arith))
 
   -- whichever it is, one job more is counted
   pub one-more : e ≤ 256 → total (withEnding t e) ≡ total t + 1
   one-more h =
       by-test (eqb 0 e) (λ z. ap total (sym (ends-passed (sym (eqb-true 0 e z)))) ∙ omega arith)
-      (λ z. by-test (eqb 256 e) (λ n. ap total (sym (ends-never (sym (eqb-true 256 e n)))) ∙ omega arith)
-      (λ n. ap total (sym (ends-failed (λ q. eqb-false 0 e z (sym q)) (λ q. eqb-false 256 e n (sym q)) h)) ∙ omega arith))
+      (λ z. by-test (eqb 124 e) (λ k. ap total (sym (ends-killed (sym (eqb-true 124 e k)))) ∙ omega arith)
+      (λ k. by-test (eqb 256 e) (λ n. ap total (sym (ends-never (sym (eqb-true 256 e n)))) ∙ omega arith)
+      (λ n. ap total (sym (ends-failed (λ q. eqb-false 0 e z (sym q)) (λ q. eqb-false 124 e k (sym q)) (λ q. eqb-false 256 e n (sym q)) h)) ∙ omega arith)))
 
 -- ---- of the first n numbers of a slice those below i are counted
 pub record Tallying (w : List ℕ) (n : ℕ) (t : Tally) (i : ℕ) : Type 0 where

@@ -1,4 +1,4 @@
--- The three tallies of a board that keeps the rules sum to the count of its columns 0 and 1. Assumes only the laws of the codes.
+-- The four tallies of a board that keeps the rules sum to the count of its columns 0 and 1. Assumes only the laws of the codes.
 use Prim.Native.Nat.{ℕ}
 use mathlib.Core.Path.{_≡_, refl, sym, ap, _∙_}
 use mathlib.Core.Bool.{true}

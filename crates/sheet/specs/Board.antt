@@ -35,11 +35,17 @@ endingsTold endings = tallied (ask (all (λ e. leb e 256) endings) badBoard) end
 
 -- how many jobs the tallies count
 abbrev pub total : Tally → ℕ
-total t = t .passed + t .failed + t .unended
+total t = t .passed + t .failed + t .killed + t .unended
 
 -- tallies added up
 abbrev pub addTally : Tally → Tally → Tally
-addTally t u = record { passed = t .passed + u .passed; failed = t .failed + u .failed; unended = t .unended + u .unended }
+addTally t u =
+    record {
+      passed = t .passed + u .passed;
+      failed = t .failed + u .failed;
+      killed = t .killed + u .killed;
+      unended = t .unended + u .unended;
+    }
 
 -- an ending, and tallies that can be one more
 pub record Countable (t : Tally) (ending : ℕ) : Type 0 where

@@ -19,6 +19,9 @@ ghost use Rattle.meaning.specs.Operations.{check as checkOf};
 ghost use Rattle.meaning.specs.Says.{countedSays};
 ghost use Rattle.sheet.specs.Board.{Known, ReadAgain, jobsHold, Countable, withEnding, endingsTold};
 
+// The ending of a job that `timeout` killed.
+const KILLED: u32 = 124;
+
 // The ending of a job that never ended, the largest.
 const NEVER_ENDED: u32 = 256;
 
@@ -57,13 +60,15 @@ pub fn jobs_hold(sheet: &[u8], work: &mut [u32]) -> bool
     differs_in(work, Place { number: 0 }, n)
 }
 
-// One ending more: 0 is passed, 256 never ended, any other failed.
+// One ending more: 0 is passed, 124 killed, 256 never ended, any other failed.
 fn with_ending(mut tally: Tally, ending: u32) -> Tally
     requires { ⌜ Countable tally ending ⌝ }
     ensures { λ r. ⌜ r ≡ withEnding tally ending ⌝ }
 {
     if ending == 0 {
         tally.passed += 1;
+    } else if ending == KILLED {
+        tally.killed += 1;
     } else if ending == NEVER_ENDED {
         tally.unended += 1;
     } else {
@@ -80,6 +85,7 @@ pub fn tally_in(work: &[u32], n: usize) -> Counted
     let mut tally = Tally {
         passed: 0,
         failed: 0,
+        killed: 0,
         unended: 0,
     };
     let mut i = 0;

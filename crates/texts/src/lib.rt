@@ -44,7 +44,8 @@ fn put_tally(t: Tally, out: &mut [u8], at: Offset) -> Offset
 {
     let first = put_line(b"passed", t.passed, out, at);
     let second = put_line(b"failed", t.failed, out, first);
-    put_line(b"unended", t.unended, out, second)
+    let third = put_line(b"killed", t.killed, out, second);
+    put_line(b"unended", t.unended, out, third)
 }
 
 // The lines of all columns, each of at most 1,024 numbers.

@@ -1,7 +1,7 @@
--- `with_ending` counts by one of three. Assumes nothing.
+-- `with_ending` counts by one of four. Assumes nothing.
 use native.Mathlib.Omega.{arith}
 use borrow.Author.Needs.{needs}
-use Rattle.sheet.proofs.Endings.{ends-passed, ends-never, ends-failed}
+use Rattle.sheet.proofs.Endings.{ends-passed, ends-killed, ends-never, ends-failed}
 use Rattle.sheet.proofs.boards.with_ending.Statement.{statement}
 use Rattle.sheet.proofs.boards.with_ending.Tie as tie
 
@@ -15,14 +15,21 @@ returns-2 : tie.Need-returns-2
 returns-2 c =
     let here : tie.Then2 = search in
     let start : tie.Start = search in
-    ends-never (start .args .tally) (start .args .ending) (here .if2 .taken)
+    ends-killed (start .args .tally) (start .args .ending) (here .if2 .taken)
 
 returns-3 : tie.Need-returns-3
 returns-3 c =
-    let ended : tie.Else2 = search in
+    let here : tie.Then3 = search in
+    let start : tie.Start = search in
+    ends-never (start .args .tally) (start .args .ending) (here .if3 .taken)
+
+returns-4 : tie.Need-returns-4
+returns-4 c =
+    let ended : tie.Else3 = search in
+    let alive : tie.Else2 = search in
     let failed : tie.Else1 = search in
     let start : tie.Start = search in
-    ends-failed (start .args .tally) (start .args .ending) (failed .if1 .left) (ended .if2 .left) (start .pre .most)
+    ends-failed (start .args .tally) (start .args .ending) (failed .if1 .left) (alive .if2 .left) (ended .if3 .left) (start .pre .most)
 
 pub with-ending-spec : {M : Type 1} → statement M
 with-ending-spec =
@@ -31,6 +38,8 @@ with-ending-spec =
     (λ c. search needs)  -- add-tally
     (λ c. search needs)  -- add-tally-2
     (λ c. search needs)  -- add-tally-3
+    (λ c. search needs)  -- add-tally-4
     returns
     returns-2
-    returns-3)
+    returns-3
+    returns-4)
