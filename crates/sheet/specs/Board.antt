@@ -52,5 +52,6 @@ pub record Countable (t : Tally) (ending : ℕ) : Type 0 where
   pub most : ending ≤ 256
   pub room : total t + 1 < 2 ^ 64
 
+-- one ending more
 abbrev pub withEnding : Tally → ℕ → Tally
 withEnding t e = addTally t (tallyOf (e ∷ []))

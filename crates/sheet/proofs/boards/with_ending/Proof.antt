@@ -1,5 +1,4 @@
 -- `with_ending` counts by one of four. Assumes nothing.
-use native.Mathlib.Omega.{arith}
 use borrow.Author.Needs.{needs}
 use Rattle.sheet.proofs.Endings.{ends-passed, ends-killed, ends-never, ends-failed}
 use Rattle.sheet.proofs.boards.with_ending.Statement.{statement}
