@@ -28,7 +28,7 @@ returns c =
 with-ending-requires : tie.Need-with-ending-requires Inv-loop μ-loop
 with-ending-requires c κs =
     let turn : At tie.At-loop = search in
-    record { most = c .if1 .left; room = omega (arith, turn .loop .inv .many) }
+    record { most = omega (arith, c .if1 .left); room = omega (arith, turn .loop .inv .many) }
 
 loop-again : tie.Need-loop-again Inv-loop μ-loop
 loop-again c =
