@@ -22,7 +22,10 @@ module _ (a : Answer (List ℕ)) (r r′ n n′ : ℕ) (out out₁ out₂ : List
 pub one-judge : (kind : ℕ) (plan : List ℕ) (r r′ : ℕ) → r ≡ number (judge kind plan) → r′ ≡ number (judge kind plan) → r ≡ r′
 one-judge kind plan r r′ e f = e ∙ sym f
 
-pub one-worst : (plan : List ℕ) (n r r′ size size′ : ℕ) → Tells (worstSize plan n) r size → Tells (worstSize plan n) r′ size′ → (r ≡ r′) × (size ≡ size′)
+pub one-worst : (plan : List ℕ) (n r r′ size size′ : ℕ)
+    → Tells (worstSize plan n) r size
+    → Tells (worstSize plan n) r′ size′
+    → (r ≡ r′) × (size ≡ size′)
 one-worst plan n = one-tells (worstSize plan n)
 
 pub one-write : (kinds plans counts numbers : List ℕ) (work r r′ size size′ : ℕ) (out out₁ out₂ : List ℕ)
@@ -32,7 +35,10 @@ pub one-write : (kinds plans counts numbers : List ℕ) (work r r′ size size�
 one-write kinds plans counts numbers work r r′ size size′ out =
     one-fills (writeApart kinds plans counts numbers work (length out)) r r′ size size′ out
 
-pub one-check : (sheet : List ℕ) (work r r′ k k′ : ℕ) → Blames (check sheet work) r k → Blames (check sheet work) r′ k′ → (r ≡ r′) × (k ≡ k′)
+pub one-check : (sheet : List ℕ) (work r r′ k k′ : ℕ)
+    → Blames (check sheet work) r k
+    → Blames (check sheet work) r′ k′
+    → (r ≡ r′) × (k ≡ k′)
 one-check sheet work r r′ k k′ e f = (e .returned ∙ sym (f .returned), e .blamed ∙ sym (f .blamed))
 
 pub one-read : (sheet : List ℕ) (k work r r′ n n′ : ℕ) (out out₁ out₂ : List ℕ)
@@ -41,10 +47,16 @@ pub one-read : (sheet : List ℕ) (k work r r′ n n′ : ℕ) (out out₁ out�
     → (r ≡ r′) × (n ≡ n′) × (out₁ ≡ out₂)
 one-read sheet k work r r′ n n′ out = one-fills (readSheet sheet k work (length out)) r r′ n n′ out
 
-pub one-lookup : (sheet : List ℕ) (k place r r′ x x′ : ℕ) → Tells (lookSheet sheet k place) r x → Tells (lookSheet sheet k place) r′ x′ → (r ≡ r′) × (x ≡ x′)
+pub one-lookup : (sheet : List ℕ) (k place r r′ x x′ : ℕ)
+    → Tells (lookSheet sheet k place) r x
+    → Tells (lookSheet sheet k place) r′ x′
+    → (r ≡ r′) × (x ≡ x′)
 one-lookup sheet k place = one-tells (lookSheet sheet k place)
 
-pub one-fetch : (sheet : List ℕ) (k r r′ from from′ n n′ : ℕ) → Fetches sheet k r from n → Fetches sheet k r′ from′ n′ → (r ≡ r′) × (from ≡ from′) × (n ≡ n′)
+pub one-fetch : (sheet : List ℕ) (k r r′ from from′ n n′ : ℕ)
+    → Fetches sheet k r from n
+    → Fetches sheet k r′ from′ n′
+    → (r ≡ r′) × (from ≡ from′) × (n ≡ n′)
 one-fetch sheet k r r′ from from′ n n′ e f = (e .returned ∙ sym (f .returned), e .offset ∙ sym (f .offset), e .size ∙ sym (f .size))
 
 pub one-board : (sheet : List ℕ) (work r r′ k k′ : ℕ) (t t′ : Tally)

@@ -3,18 +3,18 @@ use Prim.Native.Nat.{ℕ, _+_, _≤_, _<_}
 use mathlib.Core.Path.{_≡_, refl, sym, ap, _∙_}
 use mathlib.Core.Bool.{Bool, true, false}
 use mathlib.Core.List.{List, [], _∷_, _++_}
+use native.Mathlib.Decide.{ℕ-discrete}
 use native.Mathlib.Numerals.{add-one}
 use native.Mathlib.Omega.{arith}
-use lib.Dec.{leb, eqb}
+use lib.Dec.{leb}
 use lib.ListN.{length, getD, take, length-take}
 use lib.Seq.{take-suc, take-all, getD-take, length-take-le}
-use borrow.Author.Tests.{le-leb, lt-leb, ne-eqb, eqb-true, eqb-false}
+use borrow.Author.Tests.{le-leb, lt-leb, ne-eqb}
 use Rattle.meaning.specs.Answer.{passed, blamed}
 use Rattle.meaning.specs.Limits.{badBoard}
 use Rattle.meaning.specs.Lists.{all}
 use Rattle.meaning.specs.Operations.{count, tallyOf, noTally}
 use Rattle.meaning.specs.declared.Tally.{Tally}
-use Rattle.meaning.proofs.Tests.{by-test}
 use Rattle.table.proofs.Lists.{HoldBelow, hold-turn, hold-fail, hold-end}
 use Rattle.sheet.specs.Board.{total, addTally, withEnding, endingsTold}
 
@@ -63,10 +63,15 @@ module _ (t : Tally) (e : ℕ) where
   -- whichever it is, one job more is counted
   pub one-more : e ≤ 256 → total (withEnding t e) ≡ total t + 1
   one-more h =
-      by-test (eqb 0 e) (λ z. ap total (sym (ends-passed (sym (eqb-true 0 e z)))) ∙ omega arith)
-      (λ z. by-test (eqb 124 e) (λ k. ap total (sym (ends-killed (sym (eqb-true 124 e k)))) ∙ omega arith)
-      (λ k. by-test (eqb 256 e) (λ n. ap total (sym (ends-never (sym (eqb-true 256 e n)))) ∙ omega arith)
-      (λ n. ap total (sym (ends-failed (λ q. eqb-false 0 e z (sym q)) (λ q. eqb-false 124 e k (sym q)) (λ q. eqb-false 256 e n (sym q)) h)) ∙ omega arith)))
+      elim (ℕ-discrete e 0) [
+        | yes z ↦ ap total (sym (ends-passed z)) ∙ omega arith
+        | no z ↦
+            elim (ℕ-discrete e 124) [
+              | yes k ↦ ap total (sym (ends-killed k)) ∙ omega arith
+              | no k ↦
+                  elim (ℕ-discrete e 256) [ yes n ↦ ap total (sym (ends-never n)) ∙ omega arith | no n ↦ ap total (sym (ends-failed z k n h)) ∙ omega arith ]
+            ]
+      ]
 
 -- ---- of the first n numbers of a slice those below i are counted
 pub record Tallying (w : List ℕ) (n : ℕ) (t : Tally) (i : ℕ) : Type 0 where

@@ -33,7 +33,8 @@ tallied-passed : (v : Verdict) (xs : List ℕ) (t : Tally) → tallied v xs ≡ 
 tallied-passed passed xs t e = (refl, ap (λ (x : Verdict × Tally). x .1) e)
 tallied-passed (blamed z k) xs t e = absurd (not-passed z k (ap (λ (x : Verdict × Tally). x .0) e))
 
-pub tallies-sum : (sheet : List ℕ) → Below 256 sheet → (work : ℕ) (t : Tally) → countBoard sheet work ≡ (passed, t) → total t ≡ columnAt sheet 1 .count
+pub tallies-sum : (sheet : List ℕ) → Below 256 sheet → (work : ℕ) (t : Tally)
+    → countBoard sheet work ≡ (passed, t) → total t ≡ columnAt sheet 1 .count
 unfolding countBoard boardVerdict
 tallies-sum sheet bytes work t e =
     let (v, is) = tallied-passed (boardVerdict sheet work) (numbersAt sheet 1) t e in

@@ -1,7 +1,7 @@
 -- `pelluvion_board` tells what `board` says. Assumes nothing.
-use mathlib.Core.Path.{sym, ap, _∙_}
+use mathlib.Core.Path.{refl, sym, ap, _∙_}
 use Rattle.meaning.specs.Says.{countedSays}
-use Rattle.capi.proofs.Tellings.{tallies-given, tallies-none}
+use Rattle.capi.proofs.Tellings.{tallies}
 use borrow.Author.Needs.{needs}
 use Rattle.capi.proofs.pelluvion_board.Statement.{statement}
 use Rattle.capi.proofs.pelluvion_board.Tie as tie
@@ -25,7 +25,7 @@ returns : tie.Need-returns
 returns c =
     let told : tie.After-counted = search in
     let asked : tie.After-board = search in
-    tallies-given _ _ (ap countedSays (sym (told .counted .given .1)) ∙ asked .board .ensures)
+    tallies _ _ _ (ap countedSays (sym (told .counted .given .1)) ∙ asked .board .ensures) refl
 
 same-length-2 : tie.Need-same-length-2
 same-length-2 c = search needs
@@ -34,7 +34,7 @@ returns-2 : tie.Need-returns-2
 returns-2 c =
     let told : tie.After-counted2 = search in
     let asked : tie.After-board = search in
-    tallies-none _ _ _ _ (ap countedSays (sym (told .counted2 .given .1)) ∙ asked .board .ensures) (c .wide .ensures .0)
+    tallies _ _ _ (ap countedSays (sym (told .counted2 .given .1)) ∙ asked .board .ensures) (c .wide .ensures .0)
 
 pub pelluvion-board-spec : {M : Type 1} → statement M
 pelluvion-board-spec =

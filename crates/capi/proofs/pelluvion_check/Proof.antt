@@ -1,7 +1,7 @@
 -- `pelluvion_check` tells what `check` says. Assumes nothing.
-use mathlib.Core.Path.{sym, ap, _∙_}
+use mathlib.Core.Path.{refl, sym, ap, _∙_}
 use Rattle.meaning.specs.Says.{checkedSays}
-use Rattle.capi.proofs.Tellings.{blames-none, blames-one}
+use Rattle.capi.proofs.Tellings.{blames}
 use borrow.Author.Needs.{needs}
 use Rattle.capi.proofs.pelluvion_check.Statement.{statement}
 use Rattle.capi.proofs.pelluvion_check.Tie as tie
@@ -24,7 +24,7 @@ same-length c = search needs
 returns : tie.Need-returns
 returns c =
     let asked : tie.After-check = search in
-    blames-none _ (ap checkedSays (sym (c .enum-told .given .1)) ∙ asked .check .ensures)
+    blames _ _ _ (ap checkedSays (sym (c .enum-told .given .1)) ∙ asked .check .ensures) refl
 
 same-length-2 : tie.Need-same-length-2
 same-length-2 c = search needs
@@ -33,7 +33,7 @@ returns-2 : tie.Need-returns-2
 returns-2 c =
     let told : tie.After-checked = search in
     let asked : tie.After-check = search in
-    blames-one _ _ _ _ (ap checkedSays (sym (told .checked .given .1)) ∙ asked .check .ensures) (c .wide .ensures .0)
+    blames _ _ _ (ap checkedSays (sym (told .checked .given .1)) ∙ asked .check .ensures) (c .wide .ensures .0)
 
 pub pelluvion-check-spec : {M : Type 1} → statement M
 pelluvion-check-spec =

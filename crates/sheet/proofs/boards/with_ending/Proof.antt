@@ -25,10 +25,10 @@ returns-3 c =
 returns-4 : tie.Need-returns-4
 returns-4 c =
     let ended : tie.Else3 = search in
-    let alive : tie.Else2 = search in
-    let failed : tie.Else1 = search in
+    let unkilled : tie.Else2 = search in
+    let unpassed : tie.Else1 = search in
     let start : tie.Start = search in
-    ends-failed (start .args .tally) (start .args .ending) (failed .if1 .left) (alive .if2 .left) (ended .if3 .left) (start .pre .most)
+    ends-failed (start .args .tally) (start .args .ending) (unpassed .if1 .left) (unkilled .if2 .left) (ended .if3 .left) (start .pre .most)
 
 pub with-ending-spec : {M : Type 1} → statement M
 with-ending-spec =
