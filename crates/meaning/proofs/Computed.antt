@@ -14,7 +14,7 @@ use Rattle.meaning.specs.Operations.{listedBy, ordersHold, writeListed, 
 use Rattle.meaning.specs.Operations.{check, column, readSheet, lookSheet, fetch, openReader, callOver, call, numbersAt}
 use Rattle.meaning.specs.Operations.{boardHolds, boardVerdict, count, tallyOf, countBoard}
 use Rattle.meaning.specs.Plan.{planSize, planAt, planOf, good, wellFormed, passes, judgePlan, judge, defaultPlan, planUsed, worstPlan, worstSize}
-use Rattle.meaning.specs.Sheet.{ofKind, entryBytes, assemble, sheetBytes, worstSheet}
+use Rattle.meaning.specs.Sheet.{ofKind, entrySize, entryBytes, assemble, sheetBytes, worstSheet}
 use Rattle.meaning.specs.Sheet.{columnsIn, columnsOf, isSheet, tableHolds, sound, readColumn, checkColumn, largestCount}
 use Rattle.meaning.specs.Stages.{leastOf, least, lessBefore, sumsFrom, valuesAfter, lengthsAfter, runValues, runLengths, unroll, write}
 use Rattle.meaning.specs.Stages.{small, raised, summed, unrolled, runHeader, read, within, total, seek, look}
@@ -38,7 +38,7 @@ unfolding
     check column readSheet lookSheet fetch openReader callOver call numbersAt
     boardHolds boardVerdict count tallyOf countBoard
     planSize planAt planOf good wellFormed passes judgePlan judge defaultPlan planUsed worstPlan worstSize
-    ofKind entryBytes assemble sheetBytes worstSheet
+    ofKind entrySize entryBytes assemble sheetBytes worstSheet
     columnsIn columnsOf isSheet tableHolds sound readColumn checkColumn largestCount
     leastOf least lessBefore sumsFrom valuesAfter lengthsAfter runValues runLengths unroll write
     small raised summed unrolled runHeader read within total seek look

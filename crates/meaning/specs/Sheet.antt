@@ -24,7 +24,7 @@ pub record Entry : Type 0 where
   pub size : ℕ
 
 -- how many bytes it takes, and where in them its plan, its count and its body's length stand
-abbrev pub entrySize : ℕ → ℕ
+unfoldable pub entrySize : ℕ → ℕ
 entrySize edition = 24
 
 abbrev pub planIn : ℕ

@@ -1,15 +1,12 @@
--- A column read: its plan's reading, and for kind 1 that the list rises. Assumes only the laws of the codes.
+-- A column read: its plan's reading, and that the list is of its kind. Assumes only the laws of the codes.
 use Prim.Native.Nat.{ℕ, _+_, _≤_}
 use mathlib.Core.Path.{_≡_, refl, sym, ap, _∙_, subst}
 use mathlib.Core.Bool.{true, false}
 use mathlib.Core.List.{List}
 use native.Mathlib.Omega.{arith}
-use lib.Dec.{eqb}
 use lib.ListN.{length, length-take}
-use borrow.Author.Tests.{eq-eqb, ne-eqb}
 use Rattle.meaning.specs.Answer.{Answer, given, refused, bind, need}
-use Rattle.meaning.specs.Limits.{rising, fault}
-use Rattle.meaning.specs.Lists.{rises}
+use Rattle.meaning.specs.Limits.{fault}
 use Rattle.meaning.specs.Places.{part, Below, Got}
 use Rattle.meaning.specs.Plan.{planOf}
 use Rattle.meaning.specs.Sheet.{Column, ofKind, readColumn}
@@ -28,11 +25,6 @@ use Rattle.codes.proofs.Numbered.{laws}
 abbrev keep : ℕ → List ℕ → Answer (List ℕ)
 keep kind xs = need (ofKind kind xs) fault (given xs)
 
-any-kept : (kind : ℕ) → eqb kind rising ≡ false → (a : Answer (List ℕ)) → a ≡ bind a (keep kind)
-unfolding ofKind
-any-kept kind t (given xs) = rw t
-any-kept kind t (refused z) = refl
-
 -- a list that stands in work where it is
 got-part : (w : List ℕ) (n : ℕ) → length (part w 0 n) ≡ n → Got (given (part w 0 n)) 0 w w (Whole n)
 got-part w n many =
@@ -41,10 +33,6 @@ got-part w n many =
       here = λ xs i. let x : part w 0 n ≡ xs = cc in rw (← x, many);
       kept = refl;
     }
-
-rising-is : (kind : ℕ) (xs : List ℕ) → kind ≡ rising → ofKind kind xs ≡ rises xs
-unfolding ofKind
-rising-is kind xs e = rw (eq-eqb kind rising e)
 
 -- what was read from the parts that are lent for an entry
 module _ (sheet : List ℕ) (e : Entry) {w w₁ : List ℕ} {q : Reading}
@@ -55,10 +43,6 @@ module _ (sheet : List ℕ) (e : Entry) {w w₁ : List ℕ} {q : Reading}
   so : Got all 0 w w₁ q
   so = subst (λ (a : Answer (List ℕ)). Got a 0 w w₁ q) (of-column sheet e read) lent
 
-  pub column-any : (e .kind ≡ rising → ⊥) → Got (readColumn (columnOf sheet e)) 0 w w₁ q
-  unfolding readColumn
-  column-any h = subst (λ (a : Answer (List ℕ)). Got a 0 w w₁ q) (any-kept (e .kind) (ne-eqb (e .kind) rising h) all) so
-
   pub column-stop : {z : ℕ} → q ≡ Refused z → Got (readColumn (columnOf sheet e)) 0 w w₁ (Refused z)
   unfolding readColumn
   column-stop {z} t = got-stop all 0 w w₁ q so (keep (e .kind)) z t
@@ -67,19 +51,18 @@ module _ (sheet : List ℕ) (e : Entry) {w w₁ : List ℕ} {q : Reading}
     pub column-room : 0 + n ≤ length w₁
     column-room = omega (arith, got-given all 0 w w₁ q so n t .1, length-take n w₁)
 
-    module _ (r : e .kind ≡ rising) where
-      pub column-risen : true ≡ rises (part w₁ 0 n) → Got (readColumn (columnOf sheet e)) 0 w w₁ (Whole n)
-      unfolding readColumn
-      column-risen y =
-          let k : keep (e .kind) (part w₁ 0 n) ≡ given (part w₁ 0 n) = rw (rising-is (e .kind) (part w₁ 0 n) r, ← y) in
-          got-then all 0 w w₁ q so (keep (e .kind)) n t w₁ (Whole n)
-          (subst (λ (a : Answer (List ℕ)). Got a 0 w₁ w₁ (Whole n)) (sym k) (got-part w₁ n (got-given all 0 w w₁ q so n t .1)))
+    pub column-kept : true ≡ ofKind (e .kind) (part w₁ 0 n) → Got (readColumn (columnOf sheet e)) 0 w w₁ (Whole n)
+    unfolding readColumn
+    column-kept y =
+        let k : keep (e .kind) (part w₁ 0 n) ≡ given (part w₁ 0 n) = rw (← y) in
+        got-then all 0 w w₁ q so (keep (e .kind)) n t w₁ (Whole n)
+        (subst (λ (a : Answer (List ℕ)). Got a 0 w₁ w₁ (Whole n)) (sym k) (got-part w₁ n (got-given all 0 w w₁ q so n t .1)))
 
-      pub column-falls : false ≡ rises (part w₁ 0 n) → Got (readColumn (columnOf sheet e)) 0 w w₁ (Refused fault)
-      unfolding readColumn
-      column-falls y =
-          got-then all 0 w w₁ q so (keep (e .kind)) n t w₁ (Refused fault)
-          (got-refused (keep (e .kind) (part w₁ 0 n)) 0 w₁ w₁ fault (rw (rising-is (e .kind) (part w₁ 0 n) r, ← y)) refl)
+    pub column-other : false ≡ ofKind (e .kind) (part w₁ 0 n) → Got (readColumn (columnOf sheet e)) 0 w w₁ (Refused fault)
+    unfolding readColumn
+    column-other y =
+        got-then all 0 w w₁ q so (keep (e .kind)) n t w₁ (Refused fault)
+        (got-refused (keep (e .kind) (part w₁ 0 n)) 0 w₁ w₁ fault (rw (← y)) refl)
 
 -- a column that was read has as many numbers as its entry says
 pub column-many : (c : Column) (xs : List ℕ) → Below 256 (c .body) → readColumn c ≡ given xs

@@ -2,16 +2,15 @@
 use meaning::FAULT;
 use meaning::PLAN_BYTES;
 use meaning::Place;
-use meaning::RISING;
 use meaning::Reading;
 use plan_read::read_list;
-use stages::rises_in;
+use stages::of_kind;
 use table::Entry;
 ghost use Rattle.meaning.specs.Places.{Got};
 ghost use Rattle.meaning.specs.Sheet.{readColumn};
 ghost use Rattle.sheet.specs.Opened.{columnOf, Readable};
 
-// Reads a column into work from its first place on: all of its plan is applied, and a list of kind 1 must rise.
+// Reads a column into work from its first place on: all of its plan is applied, and its list must be of its kind.
 pub fn read_column(sheet: &[u8], entry: Entry, work: &mut [u32]) -> Reading
     requires { ⌜ Readable (now sheet) (now work) entry ⌝ }
     ensures { λ r. ⌜ Got (readColumn (columnOf (now (sheet .entry)) entry)) 0 (now (work .entry)) (now (work .exit)) r ⌝ }
@@ -23,14 +22,11 @@ pub fn read_column(sheet: &[u8], entry: Entry, work: &mut [u32]) -> Reading
     let start = body.byte;
     let end = start + entry.size;
     let got = read_list(&sheet[from..to], &sheet[start..end], entry.count, work);
-    if entry.kind != RISING {
-        return got;
-    }
     match got {
         Reading::Refused(e) => Reading::Refused(e),
         Reading::Whole(n) => {
-            let risen = rises_in(work, Place { number: 0 }, n);
-            if risen {
+            let kept = of_kind(entry.kind, work, Place { number: 0 }, n);
+            if kept {
                 return Reading::Whole(n);
             }
             Reading::Refused(FAULT)

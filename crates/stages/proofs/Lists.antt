@@ -5,7 +5,7 @@ use mathlib.Core.Bool.{Bool, true, false, cond}
 use mathlib.Core.List.{List, [], _∷_}
 use native.Mathlib.Omega.{arith}
 use lib.Dec.{leb, ltb, eqb}
-use borrow.Author.Tests.{lt-ltb, ltb-true, le-leb, leb-true}
+use borrow.Author.Tests.{lt-ltb, ltb-true, le-leb, leb-true, eq-eqb, ne-eqb}
 use Rattle.meaning.specs.Limits.{numberLimit, rising}
 use Rattle.meaning.specs.Lists.{all, neighbours, rises}
 use Rattle.meaning.specs.Places.{Below}
@@ -62,3 +62,13 @@ module _ (kind : ℕ) where
 pub kind-any : (xs : List ℕ) → ofKind 0 xs ≡ true
 unfolding ofKind
 kind-any xs = refl
+
+-- whether a list is of its kind, by the kind
+module _ (kind : ℕ) (xs : List ℕ) where
+  pub is-rising : kind ≡ rising → {r : Bool} → r ≡ rises xs → r ≡ ofKind kind xs
+  unfolding ofKind
+  is-rising h e = rw (eq-eqb kind rising h) e
+
+  pub is-any : (kind ≡ rising → ⊥) → true ≡ ofKind kind xs
+  unfolding ofKind
+  is-any h = rw (ne-eqb kind rising h)

@@ -8,6 +8,7 @@ use leaves::long;
 use leaves::whole;
 use meaning::FAULT;
 use meaning::Place;
+use meaning::RISING;
 use meaning::Reading;
 ghost use mathlib.Core.Path.{_≡_};
 ghost use mathlib.Core.List.{map};
@@ -17,6 +18,7 @@ ghost use lib.Seq.{sets};
 ghost use Rattle.meaning.specs.Limits.{mostNumbers, numberLimit};
 ghost use Rattle.meaning.specs.Lists.{rises, differ, sum};
 ghost use Rattle.meaning.specs.Places.{part, Got};
+ghost use Rattle.meaning.specs.Sheet.{ofKind};
 ghost use Rattle.meaning.specs.Stages.{least, lessBefore, sumsFrom, raised, summed, unrolled};
 ghost use Rattle.stages.specs.Firsts.{Stored};
 ghost use Rattle.stages.specs.Runs.{RunsMade, runFits, Spread};
@@ -56,6 +58,17 @@ pub fn rises_in(work: &[u32], from: Place, n: usize) -> bool
         }
         v = x;
         i += 1;
+    }
+    true
+}
+
+// Whether a list is of its kind.
+pub fn of_kind(kind: u8, work: &[u32], from: Place, n: usize) -> bool
+    requires { ⌜ from .number + n ≤ length (now work) ⌝ }
+    ensures { λ r. ⌜ r ≡ ofKind kind (part (now (work .entry)) (from .number) n) ⌝ }
+{
+    if kind == RISING {
+        return rises_in(work, from, n);
     }
     true
 }

@@ -3,6 +3,7 @@
 use Prim.Native.Nat.{ℕ, zero, suc, _+_, _*_, _≤_, _<_}
 use mathlib.Core.Path.{_≡_, refl, sym, ap, ap₂, _∙_}
 use mathlib.Core.List.{List, [], _∷_, _++_, append-assoc, map}
+use native.Mathlib.Nat.{mul-zero}
 use native.Mathlib.Omega.{arith}
 use lib.ListN.{length, getD, take, drop, length-append, length-drop, take-append-drop}
 use lib.Seq.{take-at, drop-at, drop-drop, take-add}
@@ -66,7 +67,7 @@ module _ (edition : ℕ) where
 
   pub entries-long : (cs : List Column) → AllEntered cs → length (entriesOf edition cs) ≡ entrySize edition * length cs
   unfolding joined
-  entries-long [] all = refl
+  entries-long [] all = sym (mul-zero (entrySize edition))
   entries-long (c ∷ cs) all =
       omega (
         arith,
@@ -93,7 +94,7 @@ module _ (edition : ℕ) where
   entries-back : (n : ℕ) (table bodies : List ℕ) → Below 256 table → entrySize edition * n ≤ length table
       → entriesOf edition (columnsIn edition n table bodies) ≡ take (entrySize edition * n) table
   unfolding columnsIn joined
-  entries-back zero table bodies b h = refl
+  entries-back zero table bodies b h = ap (λ (k : ℕ). take k table) (sym (mul-zero (entrySize edition)))
   entries-back (suc n) table bodies b h =
       let size = entrySize edition in
       let e : size + size * n ≡ size * suc n = omega arith in

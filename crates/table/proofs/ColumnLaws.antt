@@ -17,6 +17,7 @@ use Rattle.table.specs.declared.Entry.{Entry}
 use Rattle.table.specs.declared.Column.{Column as Told}
 use Rattle.table.specs.declared.Column.the-variants.{At, Refused}
 use Rattle.table.proofs.Columns.{column-count, plan-is, size-is, body-is, begins-so}
+use Rattle.table.proofs.Slots.{slot-within}
 use Rattle.table.proofs.Sounds.{sound-table, sound-column}
 
 -- ---- an entry of a sound sheet
@@ -24,7 +25,7 @@ module _ {sheet : List ℕ} {k : ℕ} (here : Here sheet k) where
   pub within : Within sheet k
   within = record { whole = sound-table sheet (here .sounds) .whole; below = here .exists }
 
-  pub entry-is : {e : Entry} → e .kind ≡ columnAt sheet k .kind → e .plan .byte ≡ planOffset k → e .count ≡ columnAt sheet k .count
+  pub entry-is : {e : Entry} → e .kind ≡ columnAt sheet k .kind → e .plan .byte ≡ planOffset sheet k → e .count ≡ columnAt sheet k .count
       → e .size ≡ columnAt sheet k .size → e .body .byte ≡ bodyOffset sheet k → EntryIs sheet k e
   entry-is kind plan count size body =
       let holds = sound-column sheet (here .sounds) k (here .exists) in
@@ -34,7 +35,7 @@ module _ {sheet : List ℕ} {k : ℕ} (here : Here sheet k) where
         size = size;
         plan = ap (λ (j : ℕ). take planBytes (drop j sheet)) plan ∙ sym (plan-is sheet k (here .exists));
         body = ap₂ (λ (i j : ℕ). take i (drop j sheet)) (size ∙ size-is sheet k (here .exists)) body ∙ sym (body-is sheet k (here .exists));
-        planFits = omega (arith, within .whole, within .below);
+        planFits = omega (arith, slot-within within);
         bodyFits = omega (arith, holds .fits);
         planBegins = plan;
         begins = body ∙ begins-so sheet k (omega (arith, here .exists));

@@ -2,7 +2,7 @@
 use Prim.Native.Nat.{ℕ, zero, suc, _+_, _-_, _≤_, _<_}
 use mathlib.Core.Path.{_≡_, refl, sym, ap, ap₂, _∙_}
 use mathlib.Core.List.{List, [], _∷_, map}
-use native.Mathlib.Nat.{add-assoc, add-zero, sub-zero}
+use native.Mathlib.Nat.{add-assoc, add-zero, sub-zero, mul-zero}
 use native.Mathlib.Numerals.{add-one}
 use native.Mathlib.Omega.{arith}
 use lib.ListN.{length, getD, take, drop, drop-of-length-le}
@@ -14,7 +14,7 @@ use Rattle.meaning.specs.Sheet.{entrySize, planIn, countIn, sizeIn, entryIn, Co
 use Rattle.meaning.specs.Sheet.{editionOf, columnCount, tableSize, columnsOf, columnAt, bodyBegins}
 use Rattle.meaning.proofs.Tests.{by-order}
 use Rattle.words.proofs.Words.{word-drop}
-use Rattle.table.specs.Offsets.{entryOffset, planOffset, sizeAt, sizesBefore, bodyOffset, blankColumn, columnBy}
+use Rattle.table.specs.Offsets.{slotOf, planOffset, sizeAt, sizesBefore, bodyOffset, blankColumn, columnBy}
 use Rattle.table.proofs.Lists.{sum-next}
 
 columns-length : (edition n : ℕ) (table bodies : List ℕ) → length (columnsIn edition n table bodies) ≡ n
@@ -38,19 +38,19 @@ module _ (sheet : List ℕ) where
 
   -- the columns from k on
   pub columns-from : (k : ℕ) → k ≤ columnCount sheet
-      → drop k (columnsOf sheet) ≡ columnsIn (editionOf sheet) (columnCount sheet - k) (drop (entryOffset k) sheet) (drop (bodyOffset sheet k) sheet)
+      → drop k (columnsOf sheet) ≡ columnsIn (editionOf sheet) (columnCount sheet - k) (drop (slotOf sheet k) sheet) (drop (bodyOffset sheet k) sheet)
   unfolding columnsOf sizesBefore
-  columns-from zero h = rw (sub-zero (columnCount sheet), add-zero (tableSize sheet))
+  columns-from zero h = rw (sub-zero (columnCount sheet), mul-zero (entrySize (editionOf sheet)), add-zero (tableSize sheet))
   columns-from (suc k) h =
       let n = columnCount sheet - suc k in
       let m : columnCount sheet - k ≡ suc n = omega arith in
-      let next : entryOffset k + entrySize (editionOf sheet) ≡ entryOffset (suc k) = omega arith in
+      let next : slotOf sheet k + entrySize (editionOf sheet) ≡ slotOf sheet (suc k) = omega arith in
       let body : bodyOffset sheet k + sizeAt sheet k ≡ bodyOffset sheet (suc k) = add-assoc (tableSize sheet) (sizesBefore sheet k) (sizeAt sheet k) in
       ap (λ (j : ℕ). drop j (columnsOf sheet)) (sym (add-one k))
       ∙ sym (drop-drop 1 k (columnsOf sheet))
       ∙ ap (drop 1)
-      (columns-from k (omega arith) ∙ ap (λ (j : ℕ). columnsIn (editionOf sheet) j (drop (entryOffset k) sheet) (drop (bodyOffset sheet k) sheet)) m)
-      ∙ rest-of (editionOf sheet) sheet n (entryOffset k) (bodyOffset sheet k)
+      (columns-from k (omega arith) ∙ ap (λ (j : ℕ). columnsIn (editionOf sheet) j (drop (slotOf sheet k) sheet) (drop (bodyOffset sheet k) sheet)) m)
+      ∙ rest-of (editionOf sheet) sheet n (slotOf sheet k) (bodyOffset sheet k)
       ∙ ap₂ (λ (a b : ℕ). columnsIn (editionOf sheet) n (drop a sheet) (drop b sheet)) next body
 
 module _ (sheet : List ℕ) (k : ℕ) (h : k < columnCount sheet) where
@@ -63,24 +63,24 @@ module _ (sheet : List ℕ) (k : ℕ) (h : k < columnCount sheet) where
       sym (ap (λ (j : ℕ). getD (columnsOf sheet) j blankColumn) (add-zero k))
       ∙ sym (getD-drop k (columnsOf sheet) 0 blankColumn)
       ∙ ap (λ (l : List Column). getD l 0 blankColumn)
-      (columns-from sheet k (omega arith) ∙ ap (λ (j : ℕ). columnsIn (editionOf sheet) j (drop (entryOffset k) sheet) (drop (bodyOffset sheet k) sheet)) m)
+      (columns-from sheet k (omega arith) ∙ ap (λ (j : ℕ). columnsIn (editionOf sheet) j (drop (slotOf sheet k) sheet) (drop (bodyOffset sheet k) sheet)) m)
 
   -- the column's parts, by offsets of the sheet
-  pub kind-is : columnAt sheet k .kind ≡ getD sheet (entryOffset k) 0
+  pub kind-is : columnAt sheet k .kind ≡ getD sheet (slotOf sheet k) 0
   kind-is =
-      ap (λ (c : Column). c .kind) column-is ∙ getD-drop (entryOffset k) sheet 0 0 ∙ ap (λ (j : ℕ). getD sheet j 0) (add-zero (entryOffset k))
+      ap (λ (c : Column). c .kind) column-is ∙ getD-drop (slotOf sheet k) sheet 0 0 ∙ ap (λ (j : ℕ). getD sheet j 0) (add-zero (slotOf sheet k))
 
-  pub plan-is : columnAt sheet k .plan ≡ take planBytes (drop (planOffset k) sheet)
-  plan-is = ap (λ (c : Column). c .plan) column-is ∙ ap (take planBytes) (drop-drop planIn (entryOffset k) sheet)
+  pub plan-is : columnAt sheet k .plan ≡ take planBytes (drop (planOffset sheet k) sheet)
+  plan-is = ap (λ (c : Column). c .plan) column-is ∙ ap (take planBytes) (drop-drop planIn (slotOf sheet k) sheet)
 
-  pub count-is : columnAt sheet k .count ≡ wordAt sheet (entryOffset k + countIn)
-  count-is = ap (λ (c : Column). c .count) column-is ∙ word-drop sheet (entryOffset k) countIn
+  pub count-is : columnAt sheet k .count ≡ wordAt sheet (slotOf sheet k + countIn)
+  count-is = ap (λ (c : Column). c .count) column-is ∙ word-drop sheet (slotOf sheet k) countIn
 
   pub size-is : columnAt sheet k .size ≡ sizeAt sheet k
   size-is = ap (λ (c : Column). c .size) column-is
 
-  pub size-in : sizeAt sheet k ≡ wordAt sheet (entryOffset k + sizeIn)
-  size-in = word-drop sheet (entryOffset k) sizeIn
+  pub size-in : sizeAt sheet k ≡ wordAt sheet (slotOf sheet k + sizeIn)
+  size-in = word-drop sheet (slotOf sheet k) sizeIn
 
   pub body-is : columnAt sheet k .body ≡ take (sizeAt sheet k) (drop (bodyOffset sheet k) sheet)
   body-is = ap (λ (c : Column). c .body) column-is

@@ -19,7 +19,7 @@ pub record Sized (e : Entry) : Type 0 where
 
 module _ (edition : ℕ) (e : Entry) where
   pub entry-long : length (e .plan) ≡ planBytes → length (entryBytes edition e) ≡ entrySize edition
-  unfolding entryBytes
+  unfolding entrySize entryBytes
   entry-long planned =
       let a = length-append (e .plan) (word (e .count) ++ word (e .size)) in
       let b = length-append (word (e .count)) (word (e .size)) in
@@ -69,6 +69,7 @@ module _ (edition : ℕ) (e : Entry) where
 -- ---- read, and laid down
 parts : (edition : ℕ) (table : List ℕ) → entrySize edition ≤ length table
     → getD table 0 0 ∷ (take planBytes (drop planIn table) ++ (take 4 (drop countIn table) ++ take 4 (drop sizeIn table))) ≡ take (entrySize edition) table
+unfolding entrySize
 parts edition [] h = absurd (omega arith)
 parts edition (x ∷ t) h =
     ap (λ (r : List ℕ). x ∷ r)
@@ -78,7 +79,7 @@ parts edition (x ∷ t) h =
 
 pub entry-back : (edition : ℕ) (table : List ℕ) → Below 256 table → entrySize edition ≤ length table
     → entryBytes edition (entryIn edition table) ≡ take (entrySize edition) table
-unfolding entryBytes
+unfolding entrySize entryBytes
 entry-back edition table b h =
     ap₂ (λ (m n : List ℕ). getD table 0 0 ∷ (take planBytes (drop planIn table) ++ (m ++ n)))
     (word-at table countIn b (omega arith)) (word-at table sizeIn b (omega arith))

@@ -1,5 +1,5 @@
 -- What the functions over entries answer, over plain variables. Assumes nothing.
-use Prim.Native.Nat.{ℕ, _+_, _*_, _≤_, _<_, max}
+use Prim.Native.Nat.{ℕ, _+_, _*_, _^_, _≤_, _<_, max}
 use mathlib.Core.Path.{_≡_, sym, ap, _∙_}
 use mathlib.Core.Bool.{Bool, true, false, not}
 use mathlib.Core.List.{List, [], map}
@@ -12,15 +12,16 @@ use Rattle.meaning.specs.Answer.{passed}
 use Rattle.meaning.specs.Bytes.{wordAt}
 use Rattle.meaning.specs.Limits.{numberLimit, mostNumbers, rising}
 use Rattle.meaning.specs.Lists.{all, largest}
-use Rattle.meaning.specs.Sheet.{Column, countIn, sizeIn, columnCount, tableSize, columnsOf, columnAt, sound, largestCount}
-use Rattle.table.specs.Offsets.{entryOffset, sizesBefore, bodyOffset, blankColumn}
+use Rattle.meaning.specs.Sheet.{Column, countIn, sizeIn, editionOf, columnCount, tableSize, columnsOf, columnAt, sound, largestCount}
+use Rattle.table.specs.Offsets.{slotOf, sizesBefore, bodyOffset, blankColumn}
 use Rattle.table.specs.Rules.{entryHolds}
 use Rattle.table.proofs.Columns.{kind-is, count-is, size-is, size-in, Counted, one-of-them, past-them}
 use Rattle.table.proofs.Lists.{HoldBelow, hold-turn, hold-fail, hold-end, largest-next}
+use Rattle.table.proofs.Slots.{slot-small}
 use Rattle.table.proofs.Sounds.{sound-table}
 
 -- ---- the fields of an entry, from where it begins
-module _ (sheet : List ℕ) (k : ℕ) (h : k < columnCount sheet) {b : ℕ} (is : b ≡ entryOffset k) where
+module _ (sheet : List ℕ) (k : ℕ) (h : k < columnCount sheet) {b : ℕ} (is : b ≡ slotOf sheet k) where
   pub kind-here : getD sheet b 0 ≡ columnAt sheet k .kind
   kind-here = ap (λ (j : ℕ). getD sheet j 0) is ∙ sym (kind-is sheet k h)
 
@@ -37,13 +38,20 @@ pub record BodySo (sheet : List ℕ) (column at k : ℕ) : Type 0 where
   pub there : column ≤ columnCount sheet
   pub is : at ≡ bodyOffset sheet k
   pub most : k ≤ column
-  pub small : at ≤ tableSize sheet + numberLimit * k
+  pub small : at ≤ 2 ^ 14 + numberLimit * k
 
 pub body-first : {sheet : List ℕ} {columns column at : ℕ} → (tableSize sheet ≤ length sheet) × (column ≤ columnCount sheet)
-    → (columns ≡ columnCount sheet) × (columns < 256) → at ≡ entryOffset columns → BodySo sheet column at 0
+    → (columns ≡ columnCount sheet) × (columns < 256) → at ≡ slotOf sheet columns → BodySo sheet column at 0
 unfolding sizesBefore
-body-first (whole, there) (n, few) e =
-    record { whole = whole; few = omega arith; there = there; is = omega arith; most = omega arith; small = omega arith }
+body-first {sheet} {columns} (whole, there) (n, few) e =
+    record {
+      whole = whole;
+      few = omega arith;
+      there = there;
+      is = omega (arith, ap (slotOf sheet) n);
+      most = omega arith;
+      small = omega (arith, slot-small (editionOf sheet) columns);
+    }
 
 module _ {sheet : List ℕ} {column at k : ℕ} (so : BodySo sheet column at k) where
   pub body-turn : k < column → {size : ℕ} → (size ≡ columnAt sheet k .size) × (size < numberLimit) → BodySo sheet column (at + size) (k + 1)

@@ -2,6 +2,7 @@
 pub mod InTurn
 pub mod Lists
 pub mod EntryFormat
+pub mod Slots
 pub mod Columns
 pub mod Assembled
 pub mod Sounds

@@ -15,7 +15,7 @@ use Rattle.meaning.specs.Says.{judgedSays}
 use Rattle.meaning.specs.Sheet.{tableSize, columnsOf, columnAt, isSheet, tableHolds, columnCount}
 use Rattle.meaning.specs.declared.Judged.{Judged}
 use Rattle.meaning.specs.declared.Judged.the-variants.{Passed, Refused}
-use Rattle.table.specs.Offsets.{entryOffset, planOffset, bodyOffset, blankColumn}
+use Rattle.table.specs.Offsets.{slotOf, planOffset, bodyOffset, blankColumn}
 use Rattle.table.specs.Rules.{entryHolds, planJudged}
 use Rattle.table.proofs.Columns.{plan-is, Counted, one-of-them, past-them, sizes-all}
 use Rattle.table.proofs.InTurn.{PassedBelow, below-turn, below-refuse, below-end}
@@ -41,17 +41,20 @@ module _ (sheet : List ℕ) where
       by-count h = rw (le-leb 2 (length sheet) least, le-leb (length sheet) mostBytes most, eq-eqb (getD sheet 0 0) 1 h)
 
 -- ---- whether the table holds
-module _ (sheet : List ℕ) {columns : ℕ} (n : columns ≡ columnCount sheet) {b : ℕ} (is : b ≡ entryOffset columns) where
+module _ (sheet : List ℕ) {columns : ℕ} (n : columns ≡ columnCount sheet) {b : ℕ} (is : b ≡ slotOf sheet columns) where
   pub table-short : length sheet < b → false ≡ tableHolds sheet
   unfolding tableHolds
-  table-short h = rw (lt-leb (tableSize sheet) (length sheet) (omega arith))
+  table-short h = rw (lt-leb (tableSize sheet) (length sheet) (omega (arith, ap (slotOf sheet) n)))
+
+  pub table-whole : b ≤ length sheet → tableSize sheet ≤ length sheet
+  table-whole h = omega (arith, ap (slotOf sheet) n)
 
   module _ (whole : b ≤ length sheet) {t : Bool} (held : t ≡ all entryHolds (columnsOf sheet)) where
     pub table-broken : not t ≡ true → false ≡ tableHolds sheet
     unfolding tableHolds
     table-broken e =
         let f : all entryHolds (columnsOf sheet) ≡ false = sym held ∙ not-true t e in
-        rw (le-leb (tableSize sheet) (length sheet) (omega arith), f)
+        rw (le-leb (tableSize sheet) (length sheet) (table-whole whole), f)
 
     pub table-filled : not t ≡ false → {end : ℕ} → end ≡ bodyOffset sheet columns → eqb end (length sheet) ≡ tableHolds sheet
     unfolding tableHolds
@@ -59,7 +62,7 @@ module _ (sheet : List ℕ) {columns : ℕ} (n : columns ≡ columnCount sheet) 
         let f : all entryHolds (columnsOf sheet) ≡ true = sym held ∙ not-false t e in
         let z : end ≡ tableSize sheet + sum (map (λ c. c .size) (columnsOf sheet)) =
         q ∙ ap (bodyOffset sheet) n ∙ ap (λ (j : ℕ). tableSize sheet + j) (sym (sizes-all sheet)) in
-        rw (le-leb (tableSize sheet) (length sheet) (omega arith), f) (ap (λ (j : ℕ). eqb j (length sheet)) z)
+        rw (le-leb (tableSize sheet) (length sheet) (table-whole whole), f) (ap (λ (j : ℕ). eqb j (length sheet)) z)
 
 -- ---- each plan in turn: those below k have passed
 pub record PlansSo (sheet : List ℕ) (columns k : ℕ) : Type 0 where
@@ -70,7 +73,7 @@ module _ {sheet : List ℕ} {columns k : ℕ} (so : PlansSo sheet columns k) whe
   pub plans-end : columns ≤ k → passed ≡ inTurn planJudged 0 (columnsOf sheet)
   plans-end h = sym (below-end planJudged (columnsOf sheet) k (so .below) (past-them (so .counted) h))
 
-  module _ (h : k < columns) {kind from : ℕ} (ek : kind ≡ columnAt sheet k .kind) (ef : from ≡ planOffset k) where
+  module _ (h : k < columns) {kind from : ℕ} (ek : kind ≡ columnAt sheet k .kind) (ef : from ≡ planOffset sheet k) where
     -- what is judged is the column's plan
     abbrev part : List ℕ
     part = take (from + planBytes - from) (drop from sheet)

@@ -26,7 +26,7 @@ pub record EntryIs (sheet : List ℕ) (k : ℕ) (e : Entry) : Type 0 where
   pub body : take (e .size) (drop (e .body .byte) sheet) ≡ columnAt sheet k .body
   pub planFits : e .plan .byte + planBytes ≤ length sheet
   pub bodyFits : e .body .byte + e .size ≤ length sheet
-  pub planBegins : e .plan .byte ≡ planOffset k
+  pub planBegins : e .plan .byte ≡ planOffset sheet k
   pub begins : e .body .byte ≡ bodyBegins sheet k
 
 -- what an accepted column says

@@ -7,12 +7,12 @@ use meaning::Offset;
 use meaning::RISING;
 use words::word_at;
 ghost use mathlib.Core.Path.{_≡_};
-ghost use Prim.Native.Nat.{_<_, _≤_, _^_};
+ghost use Prim.Native.Nat.{_+_, _<_, _≤_, _^_};
 ghost use lib.ListN.{length};
-ghost use Rattle.meaning.specs.Limits.{numberLimit};
+ghost use Rattle.meaning.specs.Limits.{numberLimit, planBytes};
 ghost use Rattle.meaning.specs.Lists.{all};
-ghost use Rattle.meaning.specs.Sheet.{tableSize, columnsOf, columnAt, columnCount};
-ghost use Rattle.table.specs.Offsets.{entryOffset, planOffset, bodyOffset, Within};
+ghost use Rattle.meaning.specs.Sheet.{entrySize, editionOf, columnCount, tableSize, columnsOf, columnAt};
+ghost use Rattle.table.specs.Offsets.{entryOffset, slotOf, planOffset, bodyOffset, Within};
 ghost use Rattle.table.specs.Rules.{entryHolds};
 
 // Where a column's plan stands in its entry: where the meaning's `planIn` says (specs/Sheet.antt of the crate `meaning`).
@@ -24,6 +24,14 @@ pub const COUNT_IN: usize = 16;
 // Where its body's length stands: where `sizeIn` says.
 pub const SIZE_IN: usize = 20;
 
+// The edition.
+pub fn edition_of(sheet: &[u8]) -> u8
+    requires { ⌜ 2 ≤ length (now sheet) ⌝ }
+    ensures { λ r. ⌜ r ≡ editionOf (now (sheet .entry)) ⌝ }
+{
+    sheet[0]
+}
+
 // The number of columns.
 pub fn column_count(sheet: &[u8]) -> usize
     requires { ⌜ 2 ≤ length (now sheet) ⌝ }
@@ -32,22 +40,39 @@ pub fn column_count(sheet: &[u8]) -> usize
     wide(sheet[1]) as usize
 }
 
-// Where a column's entry begins; that of the column past the last is where the table ends.
-pub fn entry_start(column: usize) -> Offset
-    requires { ⌜ entryOffset column < 2 ^ 64 ⌝ }
-    ensures { λ r. ⌜ r .byte ≡ entryOffset column ⌝ }
+// How many bytes an entry takes.
+fn entry_size(edition: u8) -> usize
+    ensures { λ r. ⌜ r ≡ entrySize edition ⌝ }
 {
-    let entries = ENTRY_SIZE * column;
+    ENTRY_SIZE
+}
+
+// Where a column's entry begins; that of the column past the last is where the table ends.
+pub fn entry_start(edition: u8, column: usize) -> Offset
+    requires { ⌜ entryOffset edition column < 2 ^ 64 ⌝ }
+    ensures { λ r. ⌜ r .byte ≡ entryOffset edition column ⌝ }
+{
+    let size = entry_size(edition);
+    let entries = size * column;
     let byte = HEAD_SIZE + entries;
     Offset { byte }
 }
 
-// Where a column's plan begins.
-pub fn plan_start(column: usize) -> Offset
-    requires { ⌜ planOffset column < 2 ^ 64 ⌝ }
-    ensures { λ r. ⌜ r .byte ≡ planOffset column ⌝ }
+// The same in a sheet, by its own edition.
+pub fn slot_of(sheet: &[u8], column: usize) -> Offset
+    requires { ⌜ (2 ≤ length (now sheet)) × (slotOf (now sheet) column < 2 ^ 64) ⌝ }
+    ensures { λ r. ⌜ r .byte ≡ slotOf (now (sheet .entry)) column ⌝ }
 {
-    let start = entry_start(column);
+    let edition = edition_of(sheet);
+    entry_start(edition, column)
+}
+
+// Where a column's plan begins, which lies within the sheet.
+pub fn plan_start(sheet: &[u8], column: usize) -> Offset
+    requires { ⌜ Within (now sheet) column ⌝ }
+    ensures { λ r. ⌜ (r .byte ≡ planOffset (now (sheet .entry)) column) × (r .byte + planBytes ≤ length (now (sheet .entry))) ⌝ }
+{
+    let start = slot_of(sheet, column);
     let byte = start.byte + PLAN_IN;
     Offset { byte }
 }
@@ -57,7 +82,7 @@ pub fn kind_at(sheet: &[u8], column: usize) -> u8
     requires { ⌜ Within (now sheet) column ⌝ }
     ensures { λ r. ⌜ r ≡ columnAt (now (sheet .entry)) column .kind ⌝ }
 {
-    let start = entry_start(column);
+    let start = slot_of(sheet, column);
     let at = start.byte;
     sheet[at]
 }
@@ -67,7 +92,7 @@ pub fn count_at(sheet: &[u8], column: usize) -> usize
     requires { ⌜ Within (now sheet) column ⌝ }
     ensures { λ r. ⌜ r ≡ columnAt (now (sheet .entry)) column .count ⌝ }
 {
-    let start = entry_start(column);
+    let start = slot_of(sheet, column);
     let byte = start.byte + COUNT_IN;
     word_at(sheet, Offset { byte }) as usize
 }
@@ -77,7 +102,7 @@ pub fn size_at(sheet: &[u8], column: usize) -> usize
     requires { ⌜ Within (now sheet) column ⌝ }
     ensures { λ r. ⌜ (r ≡ columnAt (now (sheet .entry)) column .size) × (r < numberLimit) ⌝ }
 {
-    let start = entry_start(column);
+    let start = slot_of(sheet, column);
     let byte = start.byte + SIZE_IN;
     word_at(sheet, Offset { byte }) as usize
 }
@@ -88,7 +113,7 @@ pub fn body_start(sheet: &[u8], column: usize) -> Offset
     ensures { λ r. ⌜ r .byte ≡ bodyOffset (now (sheet .entry)) column ⌝ }
 {
     let columns = column_count(sheet);
-    let table = entry_start(columns);
+    let table = slot_of(sheet, columns);
     let mut at = table.byte;
     let mut k: usize = 0;
     while k < column {

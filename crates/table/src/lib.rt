@@ -59,7 +59,7 @@ pub fn entry_at(sheet: &[u8], column: usize) -> Entry
     ensures { λ r. ⌜ EntryIs (now (sheet .entry)) column r ⌝ }
 {
     let kind = kind_at(sheet, column);
-    let plan = plan_start(column);
+    let plan = plan_start(sheet, column);
     let count = count_at(sheet, column);
     let size = size_at(sheet, column);
     let body = body_start(sheet, column);

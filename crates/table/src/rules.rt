@@ -2,9 +2,9 @@
 use crate::entries::body_start;
 use crate::entries::column_count;
 use crate::entries::entries_hold;
-use crate::entries::entry_start;
 use crate::entries::kind_at;
 use crate::entries::plan_start;
+use crate::entries::slot_of;
 use judge::judge_plan;
 use meaning::Checked;
 use meaning::EDITION;
@@ -46,7 +46,7 @@ pub fn table_holds(sheet: &[u8]) -> bool
     ensures { λ r. ⌜ r ≡ tableHolds (now (sheet .entry)) ⌝ }
 {
     let columns = column_count(sheet);
-    let table = entry_start(columns);
+    let table = slot_of(sheet, columns);
     if sheet.len() < table.byte {
         return false;
     }
@@ -67,7 +67,7 @@ pub fn plans_pass(sheet: &[u8]) -> Checked
     let mut k: usize = 0;
     while k < columns {
         let kind = kind_at(sheet, k);
-        let plan = plan_start(k);
+        let plan = plan_start(sheet, k);
         let from = plan.byte;
         let to = from + PLAN_BYTES;
         let judged = judge_plan(kind, &sheet[from..to]);

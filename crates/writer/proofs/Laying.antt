@@ -2,6 +2,7 @@
 use Prim.Native.Nat.{ℕ, zero, suc, _+_, _*_, _≤_, _<_}
 use mathlib.Core.Path.{_≡_, refl, sym, ap, ap₂, _∙_}
 use mathlib.Core.List.{List, _∷_, _++_}
+use native.Mathlib.Nat.{mul-zero}
 use native.Mathlib.Numerals.{add-one}
 use native.Mathlib.Omega.{arith}
 use lib.ListN.{length, getD, take, drop, set, length-append, length-map}
@@ -13,6 +14,7 @@ use Rattle.meaning.specs.declared.Offset.{Offset}
 use Rattle.meaning.proofs.Stores.{sets-append, sets-swap}
 use Rattle.leaves.proofs.Joined.{joined-append, joined-next, joined-map}
 use Rattle.table.specs.Offsets.{entryOffset}
+use Rattle.table.proofs.Slots.{slot-below, slot-small}
 use Rattle.writer.specs.Orders.{blankListed, Laid, ColumnPut, entryLaid}
 
 -- the entries and the bodies of the columns below k
@@ -24,7 +26,7 @@ bodiesBelow ls k = joined bodyOf (take k ls)
 
 -- after a head: some entries and some bodies of n columns
 abbrev pub laidBy : ℕ → List ℕ → List ℕ → List ℕ → List ℕ
-laidBy n head entries bodies = sets (sets head 2 entries) (entryOffset n) bodies
+laidBy n head entries bodies = sets (sets head 2 entries) (entryOffset 1 n) bodies
 
 -- every entry has its 24 bytes
 abbrev pub Entries : List Listed → Type 0
@@ -35,18 +37,19 @@ pub record Laying (ls : List Listed) (n : ℕ) (head o : List ℕ) (at k : ℕ) 
   pub all : n ≡ length ls
   pub each : Entries ls
   pub most : k ≤ n
-  pub ends : at ≡ entryOffset n + length (bodiesBelow ls k)
+  pub ends : at ≡ entryOffset 1 n + length (bodiesBelow ls k)
   pub below : at ≤ mostBytes
   pub bytes : o ≡ laidBy n head (entriesBelow ls k) (bodiesBelow ls k)
 
-pub laying-start : {ls : List Listed} {n : ℕ} {head : List ℕ} {at : ℕ} → n ≤ mostColumns → n ≡ length ls → Entries ls → at ≡ entryOffset n
+pub laying-start : {ls : List Listed} {n : ℕ} {head : List ℕ} {at : ℕ} → n ≤ mostColumns → n ≡ length ls → Entries ls → at ≡ entryOffset 1 n
     → Laying ls n head head at 0
 unfolding joined
-laying-start few is each e = record { all = is; each = each; most = omega arith; ends = omega arith; below = omega arith; bytes = refl }
+laying-start {n = n} few is each e =
+    record { all = is; each = each; most = omega arith; ends = omega arith; below = omega (arith, slot-small 1 n); bytes = refl }
 
 entries-size : (ls : List Listed) → Entries ls → (k : ℕ) → k ≤ length ls → length (entriesBelow ls k) ≡ entrySize 1 * k
 unfolding joined
-entries-size ls each zero h = refl
+entries-size ls each zero h = sym (mul-zero (entrySize 1))
 entries-size ls each (suc k) h =
     let c = getD ls k blankListed in
     let next : length (entriesBelow ls (suc k)) ≡ length (entriesBelow ls k) + length (entryLaid c) =
@@ -62,11 +65,11 @@ sheet-is ls =
     ap₂ (λ (n : ℕ) (l : List ℕ). 1 ∷ n ∷ l) (length-map ls columnFor)
     (ap₂ (λ (l m : List ℕ). l ++ m) (joined-map (λ (c : Column). entryBytes 1 (entryOf c)) columnFor ls) (joined-map (λ (c : Column). c .body) columnFor ls))
 
-sheet-size : (ls : List Listed) (n : ℕ) → n ≡ length ls → Entries ls → length (sheetBytes ls) ≡ entryOffset n + length (joined bodyOf ls)
+sheet-size : (ls : List Listed) (n : ℕ) → n ≡ length ls → Entries ls → length (sheetBytes ls) ≡ entryOffset 1 n + length (joined bodyOf ls)
 sheet-size ls n e each =
     let all : length (joined entryLaid ls) ≡ entrySize 1 * length ls =
     ap (λ (l : List Listed). length (joined entryLaid l)) (sym (take-length ls)) ∙ entries-size ls each (length ls) (omega arith) in
-    omega (arith, ap length (sheet-is ls), length-append (joined entryLaid ls) (joined bodyOf ls))
+    omega (arith, ap length (sheet-is ls), length-append (joined entryLaid ls) (joined bodyOf ls), ap (entryOffset 1) e)
 
 bodies-grow : (ls : List Listed) (k : ℕ) → length (bodiesBelow ls k) ≤ length (joined bodyOf ls)
 bodies-grow ls k =
@@ -84,7 +87,7 @@ module _ {ls : List Listed} {n : ℕ} {head o : List ℕ} {at k : ℕ} (so : Lay
     entries-next : entriesBelow ls (k + 1) ≡ entriesBelow ls k ++ entryLaid c
     entries-next = joined-next entryLaid ls blankListed k (omega arith) ∙ ap (λ (l : Listed). entriesBelow ls k ++ entryLaid l) ec
 
-    end-is : end .byte ≡ entryOffset n + length (bodiesBelow ls (k + 1))
+    end-is : end .byte ≡ entryOffset 1 n + length (bodiesBelow ls (k + 1))
     end-is = omega (arith, put .ends, so .ends, ap length bodies-next, length-append (bodiesBelow ls k) (bodyOf c))
 
     -- its body passes 65,536, which ends the pass
@@ -96,7 +99,7 @@ module _ {ls : List Listed} {n : ℕ} {head o : List ℕ} {at k : ℕ} (so : Lay
         }
 
     -- in its slot, and below 65,536
-    pub laying-turn : slot ≡ entryOffset k → end .byte ≤ mostBytes → Laying ls n head o′ (end .byte) (k + 1)
+    pub laying-turn : slot ≡ entryOffset 1 k → end .byte ≤ mostBytes → Laying ls n head o′ (end .byte) (k + 1)
     laying-turn es b =
         record {
           all = so .all;
@@ -113,22 +116,22 @@ module _ {ls : List Listed} {n : ℕ} {head o : List ℕ} {at k : ℕ} (so : Lay
         B : List ℕ
         B = bodiesBelow ls k
 
-        put-body : sets o at (bodyOf c) ≡ sets (sets head 2 E) (entryOffset n) (B ++ bodyOf c)
+        put-body : sets o at (bodyOf c) ≡ sets (sets head 2 E) (entryOffset 1 n) (B ++ bodyOf c)
         put-body =
             ap₂ (λ (l : List ℕ) (j : ℕ). sets l j (bodyOf c)) (so .bytes) (so .ends)
-            ∙ sets-append B (bodyOf c) (sets head 2 E) (entryOffset n)
+            ∙ sets-append B (bodyOf c) (sets head 2 E) (entryOffset 1 n)
 
         long : length (entryLaid c) ≡ entrySize 1
         long = ap (λ (l : Listed). length (entryLaid l)) (sym ec) ∙ so .each k (omega arith)
 
-        put-entry : sets (sets (sets head 2 E) (entryOffset n) (B ++ bodyOf c)) (entryOffset k) (entryLaid c)
+        put-entry : sets (sets (sets head 2 E) (entryOffset 1 n) (B ++ bodyOf c)) (entryOffset 1 k) (entryLaid c)
             ≡ laidBy n head (entriesBelow ls (k + 1)) (bodiesBelow ls (k + 1))
         put-entry =
-            let here : entryOffset k ≡ 2 + length E = omega (arith, entries-size ls (so .each) k (omega arith)) in
-            sets-swap (entryLaid c) (B ++ bodyOf c) (sets head 2 E) (entryOffset k) (entryOffset n) (omega (arith, long))
-            ∙ ap (λ (l : List ℕ). sets l (entryOffset n) (B ++ bodyOf c))
+            let here : entryOffset 1 k ≡ 2 + length E = omega (arith, entries-size ls (so .each) k (omega arith)) in
+            sets-swap (entryLaid c) (B ++ bodyOf c) (sets head 2 E) (entryOffset 1 k) (entryOffset 1 n) (omega (arith, long, slot-below 1 k n h))
+            ∙ ap (λ (l : List ℕ). sets l (entryOffset 1 n) (B ++ bodyOf c))
             (ap (λ (j : ℕ). sets (sets head 2 E) j (entryLaid c)) here ∙ sets-append E (entryLaid c) head 2)
-            ∙ ap₂ (λ (e b : List ℕ). sets (sets head 2 e) (entryOffset n) b) (sym entries-next) (sym bodies-next)
+            ∙ ap₂ (λ (e b : List ℕ). sets (sets head 2 e) (entryOffset 1 n) b) (sym entries-next) (sym bodies-next)
 
   -- all are laid
   pub laying-end : n ≤ k → {o₀ : List ℕ} → head ≡ set (set o₀ 0 1) 1 n → Laid (sheetBytes ls) o₀ o at
@@ -137,8 +140,8 @@ module _ {ls : List Listed} {n : ℕ} {head o : List ℕ} {at k : ℕ} (so : Lay
       let whole : take k ls ≡ ls = ap (λ (j : ℕ). take j ls) e ∙ take-length ls in
       let bodies : bodiesBelow ls k ≡ joined bodyOf ls = ap (joined bodyOf) whole in
       let entries : entriesBelow ls k ≡ joined entryLaid ls = ap (joined entryLaid) whole in
-      let end : entryOffset n ≡ 2 + length (joined entryLaid ls) =
-      omega (arith, so .all, ap length entries, entries-size ls (so .each) k (omega arith)) in
+      let end : entryOffset 1 n ≡ 2 + length (joined entryLaid ls) =
+      omega (arith, ap length entries, entries-size ls (so .each) k (omega arith), ap (entryOffset 1) (so .all ∙ sym e)) in
       let length-is : at ≡ length (sheetBytes ls) = omega (arith, so .ends, ap length bodies, sheet-size ls n (so .all) (so .each)) in
       record {
         told = λ l. (

@@ -17,6 +17,7 @@ use Rattle.writer.specs.Orders.{blankListed, columnsBy, listStart, planG
 use Rattle.writer.proofs.Columns.{column-count, column-is}
 use Rattle.stages.proofs.Copies.{copy-back}
 use Rattle.table.proofs.EntryFormat.{entry-long}
+use Rattle.table.proofs.Slots.{slot-small}
 use Rattle.writer.proofs.Entries.{used-long}
 use Rattle.writer.proofs.Laying.{Laying, Entries, laying-start, laying-turn, laying-over, laying-end}
 use Rattle.writer.proofs.Sums.{start-next, start-small, list-within}
@@ -43,7 +44,7 @@ pub record Passing (kinds plans counts numbers w₀ head : List ℕ) (n : ℕ) (
   pub outLong : length o ≡ length head
 
 pub passing-start : {kinds plans counts numbers w head : List ℕ} {at : ℕ} → Ordered kinds plans counts numbers → ((i : ℕ) → 7 * getD counts i 0 ≤ length w)
-    → at ≡ entryOffset (length kinds) → Passing kinds plans counts numbers w head (length kinds) w head at 0 0
+    → at ≡ entryOffset 1 (length kinds) → Passing kinds plans counts numbers w head (length kinds) w head at 0 0
 unfolding sum
 passing-start {kinds} {plans} {counts} {numbers} ord room e =
     record {
@@ -66,6 +67,13 @@ module _ {kinds plans counts numbers w₀ head : List ℕ} {n : ℕ} {w o : List
     below : k < length kinds
     below = omega (arith, so .all)
 
+    -- its slot is one of the table's
+    slot-low : entryOffset 1 k ≤ mostBytes
+    slot-low = omega (arith, so .all, so .ordered .few, slot-small 1 k)
+
+    pub passing-slot : entryOffset 1 k < 2 ^ 64
+    passing-slot = omega (arith, slot-low)
+
     module _ {many : ℕ} (em : many ≡ getD counts k 0) where
       -- list k lies within the joined lists, and work has room for it
       pub passing-list : (from + many ≤ length numbers) × (many ≤ length w)
@@ -80,13 +88,13 @@ module _ {kinds plans counts numbers w₀ head : List ℕ} {n : ℕ} {w o : List
 
       module _ {plan : List ℕ} (ep : plan ≡ planUsed (getD kinds k 0) (part plans (planBytes * k) planBytes)) where
         -- what putting the column asks
-        pub passing-room : {work slot : ℕ} → work ≡ length w → slot ≡ entryOffset k → Room plan work many slot at
+        pub passing-room : {work slot : ℕ} → work ≡ length w → slot ≡ entryOffset 1 k → Room plan work many slot at
         passing-room l es =
             record {
               planned = ap length ep ∙ plan-long (so .ordered) k below;
               few = omega (arith, so .ordered .small k);
               scratch = omega (arith, so .room k, so .workLong);
-              low = omega (arith, so .all, so .ordered .few);
+              low = omega (arith, slot-low);
               below = so .laid .below;
             }
 
@@ -105,7 +113,7 @@ module _ {kinds plans counts numbers w₀ head : List ℕ} {n : ℕ} {w o : List
           pub passing-over : mostBytes < end .byte → {o₀ : List ℕ} → Laid (sheetBytes (columnsBy kinds plans counts numbers)) o₀ o′ (end .byte)
           passing-over b = laying-over (so .laid) h column-here put b
 
-          pub passing-turn : slot ≡ entryOffset k → end .byte ≤ mostBytes → {w′ : List ℕ} → length w′ ≡ length w → length o′ ≡ length o
+          pub passing-turn : slot ≡ entryOffset 1 k → end .byte ≤ mostBytes → {w′ : List ℕ} → length w′ ≡ length w → length o′ ≡ length o
               → Passing kinds plans counts numbers w₀ head n w′ o′ (end .byte) (from + many) (k + 1)
           passing-turn es b lw lo =
               record {

@@ -5,10 +5,10 @@ use mathlib.Core.Bool.{Bool, true, false, not}
 use mathlib.Core.List.{List}
 use native.Mathlib.Omega.{arith}
 use lib.ListN.{length, getD}
-use borrow.Author.Tests.{eq-eqb, ne-eqb, not-true, not-false}
+use borrow.Author.Tests.{not-true, not-false}
 use Rattle.meaning.specs.Answer.{inTurn}
-use Rattle.meaning.specs.Limits.{planBytes, rising}
-use Rattle.meaning.specs.Lists.{all, sum, rises}
+use Rattle.meaning.specs.Limits.{planBytes}
+use Rattle.meaning.specs.Lists.{all, sum}
 use Rattle.meaning.specs.Places.{part}
 use Rattle.meaning.specs.Plan.{judgePlan, planUsed}
 use Rattle.meaning.specs.Says.{judgedSays}
@@ -59,16 +59,6 @@ module _ {kinds plans : List ℕ} {k : ℕ} (so : JudgedBelow kinds plans k) whe
         ap verdictTold
         (sym (below-refuse listJudged (columnsBy kinds plans counts numbers) blankListed k (so .below counts numbers) (in-columns counts numbers)
         z (judged-here r is counts numbers ∙ ap judgedSays e)))
-
--- ---- a list of its kind
-module _ (kind : ℕ) (xs : List ℕ) where
-  pub kind-rising : kind ≡ rising → {r : Bool} → r ≡ rises xs → r ≡ ofKind kind xs
-  unfolding ofKind
-  kind-rising h e = rw (eq-eqb kind rising h) e
-
-  pub kind-any : (kind ≡ rising → ⊥) → true ≡ ofKind kind xs
-  unfolding ofKind
-  kind-any h = rw (ne-eqb kind rising h)
 
 -- ---- lists: those below k are of their kinds, and the next begins at `from`
 pub record RisingBelow (kinds counts numbers : List ℕ) (from k : ℕ) : Type 0 where

@@ -18,16 +18,16 @@ use table::entries::SIZE_IN;
 use table::entries::entry_start;
 use words::put_word;
 ghost use mathlib.Core.Path.{_≡_};
-ghost use Prim.Native.Nat.{ℕ, _+_, _*_, _<_, _≤_, _^_};
+ghost use Prim.Native.Nat.{ℕ, _*_, _≤_};
 ghost use lib.ListN.{length, getD, take};
 ghost use lib.Seq.{sets};
-ghost use Rattle.meaning.specs.Limits.{planBytes};
-ghost use Rattle.meaning.specs.Sheet.{entrySize, entryBytes, sheetBytes};
+ghost use Rattle.meaning.specs.Limits.{mostBytes, planBytes};
+ghost use Rattle.meaning.specs.Sheet.{entryBytes, sheetBytes};
 ghost use Rattle.writer.specs.Orders.{columnsBy, Ordered, Laid, Room, ColumnPut};
 
 // A column's entry is put at an offset.
 fn put_entry(out: &mut [u8], at: Offset, kind: u8, plan: &[u8], count: u32, size: u32)
-    requires { ⌜ (at .byte + entrySize 1 < 2 ^ 64) × (length (now plan) ≡ planBytes) ⌝ }
+    requires { ⌜ (at .byte ≤ mostBytes) × (length (now plan) ≡ planBytes) ⌝ }
     ensures { λ _. ⌜ now (out .exit) ≡ sets (now (out .entry)) (at .byte)
         (entryBytes 1 (record { kind = kind; plan = now (plan .entry); count = count; size = size })) ⌝ }
 {
@@ -98,7 +98,7 @@ pub fn put_sheet(
     let n = kinds.len();
     put(out, Offset { byte: 0 }, EDITION);
     put(out, Offset { byte: 1 }, byte_of(n));
-    let mut at = entry_start(n);
+    let mut at = entry_start(EDITION, n);
     let mut from: usize = 0;
     let mut k: usize = 0;
     while k < n {
@@ -107,7 +107,7 @@ pub fn put_sheet(
         let first = PLAN_BYTES * k;
         let plan = used_plan(kind, plans, Offset { byte: first });
         copy_list(joined, Place { number: from }, many, work);
-        let slot = entry_start(k);
+        let slot = entry_start(EDITION, k);
         at = put_column(kind, &plan, work, many, out, slot, at);
         if MOST_BYTES < at.byte {
             return at.byte;

@@ -8,7 +8,7 @@ use meaning::Offset;
 use meaning::PLAN_BYTES;
 use meaning::Place;
 use meaning::RISING;
-use stages::rises_in;
+use stages::of_kind;
 ghost use mathlib.Core.Path.{_≡_};
 ghost use mathlib.Core.List.{List};
 ghost use Prim.Native.Nat.{ℕ, _+_, _*_, _<_, _≤_};
@@ -17,9 +17,7 @@ ghost use Rattle.meaning.specs.Answer.{inTurn};
 ghost use Rattle.meaning.specs.Limits.{mostColumns, numberLimit, planBytes};
 ghost use Rattle.meaning.specs.Lists.{all, sum, largest};
 ghost use Rattle.meaning.specs.Operations.{ordersOf};
-ghost use Rattle.meaning.specs.Places.{part};
 ghost use Rattle.meaning.specs.Says.{judgedSays};
-ghost use Rattle.meaning.specs.Sheet.{ofKind};
 ghost use Rattle.writer.specs.Orders.{columnsBy, orderHolds, listJudged, listRises, verdictTold, slicesHold};
 
 // A list's numbers.
@@ -112,17 +110,6 @@ pub fn judge_orders(kinds: &[u8], plans: &[u8]) -> Judged
         k += 1;
     }
     Judged::Passed
-}
-
-// Whether a list is of its kind.
-fn of_kind(kind: u8, numbers: &[u32], from: Place, n: usize) -> bool
-    requires { ⌜ from .number + n ≤ length (now numbers) ⌝ }
-    ensures { λ r. ⌜ r ≡ ofKind kind (part (now (numbers .entry)) (from .number) n) ⌝ }
-{
-    if kind == RISING {
-        return rises_in(numbers, from, n);
-    }
-    true
 }
 
 // Whether every list is of its kind.

@@ -8,10 +8,7 @@ kind-at-requires : tie.Need-kind-at-requires
 kind-at-requires c κs = let from : tie.Start = search in within (from .pre)
 
 plan-start-requires : tie.Need-plan-start-requires
-plan-start-requires c κs =
-    let from : tie.Start = search in
-    let there = within (from .pre) in
-    omega (arith, there .whole, there .below)
+plan-start-requires c κs = let from : tie.Start = search in within (from .pre)
 
 count-at-requires : tie.Need-count-at-requires
 count-at-requires c κs = let from : tie.Start = search in within (from .pre)
@@ -32,7 +29,7 @@ returns c =
     let planned : tie.After-plan-start = search in
     let kinded : tie.After-kind-at = search in
     let from : tie.Start = search in
-    entry-is (from .pre) (kinded .kind-at .ensures) (planned .plan-start .ensures) (counted .count-at .ensures) (sized .size-at .ensures .0)
+    entry-is (from .pre) (kinded .kind-at .ensures) (planned .plan-start .ensures .0) (counted .count-at .ensures) (sized .size-at .ensures .0)
     (c .body-start .ensures)
 
 pub entry-at-spec : {M : Type 1} → statement M

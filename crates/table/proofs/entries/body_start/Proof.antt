@@ -1,6 +1,9 @@
 -- `body_start` has passed the bodies below k. Assumes nothing.
 use Prim.Native.Nat.{_-_}
+use native.Mathlib.Omega.{arith}
 use borrow.Author.Needs.{needs}
+use Rattle.meaning.specs.Sheet.{editionOf}
+use Rattle.table.proofs.Slots.{slot-small}
 use Rattle.table.proofs.EntryLaws.{BodySo, body-first, body-turn, body-end}
 use Rattle.table.proofs.entries.body_start.Statement.{statement}
 use Rattle.table.proofs.entries.body_start.Tie as tie
@@ -15,11 +18,16 @@ abbrev μ-loop : tie.MeasureT-loop
 abbrev At : (tie.InvT-loop → tie.MeasureT-loop → Type 0) → Type 0
 At point = point Inv-loop μ-loop
 
+slot-of-requires : tie.Need-slot-of-requires Inv-loop μ-loop
+slot-of-requires c κs =
+    let from : At tie.Start = search in
+    omega (arith, slot-small (editionOf (from .args .sheet .now)) (c .column-count .result))
+
 loop-holds : tie.Need-loop-holds Inv-loop μ-loop
 loop-holds c =
     let counted : At tie.After-column-count = search in
     let from : At tie.Start = search in
-    body-first (from .pre) (counted .column-count .ensures) (c .entry-start .ensures)
+    body-first (from .pre) (counted .column-count .ensures) (c .slot-of .ensures)
 
 loop-again : tie.Need-loop-again Inv-loop μ-loop
 loop-again c =
@@ -39,7 +47,7 @@ body-start-spec =
     Inv-loop
     μ-loop
     (λ c κs. search needs)  -- column-count-requires
-    (λ c κs. search needs)  -- entry-start-requires
+    slot-of-requires
     loop-holds
     (λ c κs. search needs)  -- size-at-requires
     (λ c. search needs)  -- add-at

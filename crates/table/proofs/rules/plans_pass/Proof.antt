@@ -29,7 +29,7 @@ returns c =
     let kinded : At tie.After-kind-at = search in
     let tested : At tie.In-loop = search in
     let turn : At tie.At-loop = search in
-    plans-refuse (turn .loop .inv) (tested .loop-test .taken) (kinded .kind-at .ensures) (begun .plan-start .ensures) (judged .judge-plan .ensures)
+    plans-refuse (turn .loop .inv) (tested .loop-test .taken) (kinded .kind-at .ensures) (begun .plan-start .ensures .0) (judged .judge-plan .ensures)
     (told .judged .given .1)
 
 loop-again : tie.Need-loop-again Inv-loop μ-loop
@@ -39,7 +39,7 @@ loop-again c =
     let kinded : At tie.After-kind-at = search in
     let tested : At tie.In-loop = search in
     let turn : At tie.At-loop = search in
-    plans-turn (turn .loop .inv) (tested .loop-test .taken) (kinded .kind-at .ensures) (begun .plan-start .ensures) (judged .judge-plan .ensures)
+    plans-turn (turn .loop .inv) (tested .loop-test .taken) (kinded .kind-at .ensures) (begun .plan-start .ensures .0) (judged .judge-plan .ensures)
     (c .enum-told .given .1)
 
 returns-2 : tie.Need-returns-2 Inv-loop μ-loop

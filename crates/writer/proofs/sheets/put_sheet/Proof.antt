@@ -1,8 +1,10 @@
 -- `put_sheet` has laid the columns below k. Assumes nothing.
 use Prim.Native.Nat.{_-_}
 use native.Mathlib.Omega.{arith}
+use lib.ListN.{length}
 use borrow.Author.Needs.{needs}
-use Rattle.writer.proofs.Passes.{Passing, passing-start, passing-list, passing-adds, passing-room, passing-turn, passing-over, passing-end}
+use Rattle.table.proofs.Slots.{slot-small}
+use Rattle.writer.proofs.Passes.{Passing, passing-start, passing-slot, passing-list, passing-adds, passing-room, passing-turn, passing-over, passing-end}
 use Rattle.writer.proofs.sheets.put_sheet.Statement.{statement}
 use Rattle.writer.proofs.sheets.put_sheet.Tie as tie
 
@@ -19,12 +21,22 @@ abbrev At : (tie.InvT-loop → tie.MeasureT-loop → Type 0) → Type 0
 At point = point Inv-loop μ-loop
 
 -- ---- before the loop
+entry-start-requires : tie.Need-entry-start-requires Inv-loop μ-loop
+entry-start-requires c κs =
+    let start : At tie.Start = search in
+    omega (arith, start .pre .0 .few, slot-small 1 (length (start .args .kinds .now)))
+
 loop-holds : tie.Need-loop-holds Inv-loop μ-loop
 loop-holds c =
     let start : At tie.Start = search in
     passing-start (start .pre .0) (start .pre .1) (c .entry-start .ensures)
 
 -- ---- a turn
+entry-start-requires-2 : tie.Need-entry-start-requires-2 Inv-loop μ-loop
+entry-start-requires-2 c κs =
+    let turn : At tie.In-loop = search in
+    passing-slot (turn .before .loop .inv) (turn .loop-test .taken)
+
 copy-list-requires : tie.Need-copy-list-requires Inv-loop μ-loop
 copy-list-requires c κs =
     let counted : At tie.After-whole = search in
@@ -88,7 +100,7 @@ put-sheet-spec =
     (λ c κs. search needs)  -- put-requires
     (λ c κs. search needs)  -- byte-of-requires
     (λ c κs. search needs)  -- put-requires-2
-    (λ c κs. search needs)  -- entry-start-requires
+    entry-start-requires
     loop-holds
     (λ c. search needs)  -- shared-slice-read-kind
     (λ c. search needs)  -- mul-whole
@@ -97,7 +109,7 @@ put-sheet-spec =
     (λ c. search needs)  -- mul-first
     (λ c κs. search needs)  -- used-plan-requires
     copy-list-requires
-    (λ c κs. search needs)  -- entry-start-requires-2
+    entry-start-requires-2
     (λ c. search needs)  -- slice-aggregate-put-column
     put-column-requires
     (λ c. search needs)  -- same-length
