@@ -1,6 +1,7 @@
 // Does one operation on one sheet so often, for its instructions to be counted from outside:
-//     bench ENGINE OPERATION REPEATS PLACE WIDTH PLAN..
-// ENGINE: library, plain or streamvbyte; OPERATION: read, write or lookup; WIDTH: small, mixed or wide; PLAN: its bytes.
+//     bench ENGINE OPERATION REPEATS PLACE EDITION WIDTH PLAN..
+// ENGINE: library, plain or streamvbyte; OPERATION: read, write or lookup; EDITION: 1 or 2; WIDTH: small, mixed or
+// wide; PLAN: its bytes.
 // With `times` for the engine it prints the nanoseconds of a call by the library and by plain C, in turns, the best of many rounds.
 // The sheet has one column of 1,024 numbers, the same for each engine and made before the first repeat.
 
@@ -15,7 +16,7 @@
 enum { N = 1024, REFERENCE = 16, DIFFERENCES, RUNS };
 
 static uint32_t list[N], out[N], work[8 * N];
-static uint8_t sheet[PELLUVION_SHEET], again[PELLUVION_SHEET], plan[PELLUVION_PLAN], kind;
+static uint8_t sheet[PELLUVION_SHEET], again[PELLUVION_SHEET], plan[PELLUVION_PLAN], edition, kind;
 static const uint32_t n = N;
 static size_t sheet_len, place;
 
@@ -39,13 +40,20 @@ static uint32_t number(char width, unsigned bits)
     return width == 'm' ? x | top >> 1 : x;
 }
 
+// A step of a rising list: in edition 2 never 0.
+static uint32_t step(char width)
+{
+    uint32_t x = number(width, 21);
+    return edition == 2 && x == 0 ? 1 : x;
+}
+
 // The list that the plan is for: rising for differences, runs of 1 to 16 for runs, far from 0 for reference.
 static void make_list(char width)
 {
     for (uint32_t i = 0; i < N; i++)
         switch (plan[0]) {
         case REFERENCE: list[i] = 1000000000 + number(width, 31); break;
-        case DIFFERENCES: list[i] = (i > 0 ? list[i - 1] : 0) + number(width, 21); break;
+        case DIFFERENCES: list[i] = (i > 0 ? list[i - 1] : 0) + step(width); break;
         case RUNS:
             list[i] = number(width, 32);
             for (uint32_t more = draw() % 16; more > 0 && i + 1 < N; more--, i++)
@@ -70,13 +78,14 @@ static int plain_c_read(void)
 static int library_write(void)
 {
     size_t size;
-    return pelluvion_write(&kind, 1, plan, sizeof plan, &n, 1, list, N, work, 8 * N, again, sizeof again, &size);
+    return pelluvion_write(edition, &kind, 1, plan, sizeof plan, &n, 1, list, N, work, 8 * N, again, sizeof again,
+                           &size);
 }
 
 static int plain_c_write(void)
 {
     size_t size;
-    return plain_write(&kind, 1, plan, sizeof plan, &n, 1, list, N, work, 8 * N, again, sizeof again, &size);
+    return plain_write(edition, &kind, 1, plan, sizeof plan, &n, 1, list, N, work, 8 * N, again, sizeof again, &size);
 }
 
 static int library_lookup(void) { return pelluvion_lookup(sheet, sheet_len, 0, place, out); }
@@ -119,14 +128,16 @@ static int times(const char *operation, int repeats)
 
 int main(int argc, char **argv)
 {
-    for (int i = 6; i < argc && i < 6 + PELLUVION_PLAN; i++)
-        plan[i - 6] = atoi(argv[i]);
-    if (argc < 7)
+    for (int i = 7; i < argc && i < 7 + PELLUVION_PLAN; i++)
+        plan[i - 7] = atoi(argv[i]);
+    if (argc < 8)
         return 2;
-    make_list(argv[5][0]);
-    kind = plan[0] == DIFFERENCES;
     place = atoi(argv[4]);
-    if (plain_write(&kind, 1, plan, sizeof plan, &n, 1, list, N, work, 8 * N, sheet, sizeof sheet, &sheet_len) != 0)
+    edition = atoi(argv[5]);
+    make_list(argv[6][0]);
+    kind = plan[0] == DIFFERENCES;
+    if (plain_write(edition, &kind, 1, plan, sizeof plan, &n, 1, list, N, work, 8 * N, sheet, sizeof sheet,
+                    &sheet_len) != 0)
         return 2;
     if (strcmp(argv[1], "times") == 0)
         return times(argv[2], atoi(argv[3]));

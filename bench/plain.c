@@ -6,11 +6,13 @@
 
 struct column { uint8_t kind; const uint8_t *plan; uint32_t count; const uint8_t *body; size_t length; };
 
+INLINE bool is_edition(unsigned edition) { return edition == FIRST_EDITION || edition == LAST_EDITION; }
+
 // The table of a sheet, after refusals 1 to 4; `fault` names the column of 3 and 4.
 static uint32_t table(const uint8_t *sheet, size_t sheet_len, struct column *columns, size_t *many, size_t *fault)
 {
     *many = *fault = 0;
-    if (sheet_len < 2 || sheet_len > MOST_SHEET || sheet[0] != 1 || sheet[1] > MOST_COLUMNS)
+    if (sheet_len < 2 || sheet_len > MOST_SHEET || !is_edition(sheet[0]) || sheet[1] > MOST_COLUMNS)
         return 1;
     size_t number = sheet[1], offset = 2 + ENTRY * number;
     if (sheet_len < offset)
@@ -43,11 +45,25 @@ static bool rises(const uint32_t *x, uint32_t n)
     return true;
 }
 
-// Reads a column to the front of work.
-static bool read_column(const struct column *c, uint32_t *work)
+static bool rises_strictly(const uint32_t *x, uint32_t n)
+{
+    for (uint32_t i = 1; i < n; i++)
+        if (x[i] <= x[i - 1])
+            return false;
+    return true;
+}
+
+// What a kind asks of a list, by the sheet's edition.
+static bool of_kind(unsigned edition, unsigned kind, const uint32_t *x, uint32_t n)
+{
+    return kind == 0 || (edition == FIRST_EDITION ? rises(x, n) : rises_strictly(x, n));
+}
+
+// Reads a column of a sheet of an edition to the front of work.
+static bool read_column(unsigned edition, const struct column *c, uint32_t *work)
 {
     return read_plan(c->plan, c->body, c->length, c->count, work, work + c->count)
-        && (c->kind == 0 || rises(work, c->count));
+        && of_kind(edition, c->kind, work, c->count);
 }
 
 uint32_t plain_read(const uint8_t *sheet, size_t sheet_len, size_t column, uint32_t *work, size_t work_len,
@@ -66,7 +82,7 @@ uint32_t plain_read(const uint8_t *sheet, size_t sheet_len, size_t column, uint3
         return 8;
     if (out_len < c->count)
         return 7;
-    if (!read_column(c, work))
+    if (!read_column(sheet[0], c, work))
         return 9;
     memcpy(out, work, 4 * c->count);
     *count = c->count;
@@ -100,14 +116,14 @@ static const uint8_t *order_plan(unsigned kind, const uint8_t *plan)
     return memcmp(plan, none, PLAN) == 0 ? defaults[kind] : plan;
 }
 
-uint32_t plain_write(const uint8_t *kinds, size_t kinds_len, const uint8_t *plans, size_t plans_len,
+uint32_t plain_write(uint8_t edition, const uint8_t *kinds, size_t kinds_len, const uint8_t *plans, size_t plans_len,
                      const uint32_t *counts, size_t counts_len, const uint32_t *joined, size_t joined_len,
                      uint32_t *work, size_t work_len, uint8_t *out, size_t out_len, size_t *size)
 {
     const uint8_t *plan[MOST_COLUMNS];
     size_t sizes[MOST_COLUMNS], sum = 0, largest = 0, total = 2 + ENTRY * kinds_len;
     *size = 0;
-    if (kinds_len > MOST_COLUMNS || plans_len != PLAN * kinds_len || counts_len != kinds_len)
+    if (!is_edition(edition) || kinds_len > MOST_COLUMNS || plans_len != PLAN * kinds_len || counts_len != kinds_len)
         return 11;
     for (size_t i = 0; i < kinds_len; i++) {
         if (kinds[i] > 1 || counts[i] > MOST_COUNT)
@@ -126,7 +142,7 @@ uint32_t plain_write(const uint8_t *kinds, size_t kinds_len, const uint8_t *plan
     }
     const uint32_t *list = joined;
     for (size_t i = 0; i < kinds_len; list += counts[i++])
-        if (kinds[i] == 1 && !rises(list, counts[i]))
+        if (!of_kind(edition, kinds[i], list, counts[i]))
             return 10;
     if (work_len < 7 * largest)
         return 8;
@@ -136,7 +152,7 @@ uint32_t plain_write(const uint8_t *kinds, size_t kinds_len, const uint8_t *plan
     if (total > out_len || total > MOST_SHEET)
         return 7;
     uint8_t *entry = out + 2, *body = entry + ENTRY * kinds_len;
-    out[0] = 1;
+    out[0] = edition;
     out[1] = kinds_len;
     list = joined;
     for (size_t i = 0; i < kinds_len; list += counts[i++], entry += ENTRY) {

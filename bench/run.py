@@ -19,6 +19,7 @@ import machine
 NUMBERS, REPEATS, PLACES = 1024, 4, (0, 255, 511, 1023)
 TIMED = 200
 PLANS = ("1", "2", "3", "4", "5", "6", "7", "17 1", "17 4", "18 1 1", "16 4")
+STRICT = ("17 4",)              # also read and written in edition 2; all else is in edition 1
 WIDTHS = ("small", "mixed", "wide")
 NAMES = {"1": "VByte", "2": "group of four", "3": "G8IU", "4": "Stream VByte", "5": "gamma", "6": "delta",
          "7": "four-wise", "17 1": "differences, VByte", "17 4": "differences, Stream VByte",
@@ -47,19 +48,21 @@ def plugin(program):
 
 
 def measure(archive):
-    """{(engine, operation, place, width, plan): instructions of one call}"""
+    """{(engine, operation, place, edition, width, plan): instructions of one call}"""
     machine.install()
     sources = [os.path.join(HERE, name + ".c") for name in ("bench", "plain", "plain_codes", "plain_plans", "plain_write")]
     program = machine.build("bench", *sources, archive, *machine.stream_flags())[-1]
     command = plugin(program) + [program]
-    cases = [(engine, operation, place, width, plan)
+    cases = [(engine, operation, place, 1, width, plan)
              for engine, width, plan in itertools.product(ENGINES, WIDTHS, PLANS)
              for operation, place in [("read", 0), ("write", 0)] + [("lookup", place) for place in PLACES]]
-    cases += [("streamvbyte", operation, 0, width, "4") for operation in ("read", "write") for width in WIDTHS]
+    cases += [(engine, operation, 0, 2, width, plan)
+              for engine, operation, width, plan in itertools.product(ENGINES, ("read", "write"), WIDTHS, STRICT)]
+    cases += [("streamvbyte", operation, 0, 1, width, "4") for operation in ("read", "write") for width in WIDTHS]
 
     def one(case):
-        engine, operation, place, width, plan = case
-        often, never = (count(command + [engine, operation, str(repeats), str(place), width] + plan.split())
+        engine, operation, place, edition, width, plan = case
+        often, never = (count(command + [engine, operation, *map(str, (repeats, place, edition)), width] + plan.split())
                         for repeats in (REPEATS, 0))
         return (often - never) / REPEATS
 
@@ -71,7 +74,7 @@ def times(program):
     """{(operation, place, width, plan): nanoseconds of a call by the library and by plain C}, one after the other"""
     cases = [(operation, place, width, plan) for plan, width in itertools.product(PLANS, WIDTHS)
              for operation, place in [("read", 0)] + [("lookup", place) for place in PLACES]]
-    return {case: [float(x) for x in subprocess.run([program, "times", case[0], str(TIMED), str(case[1]), case[2]] + case[3].split(),
+    return {case: [float(x) for x in subprocess.run([program, "times", case[0], str(TIMED), str(case[1]), "1", case[2]] + case[3].split(),
                                                     stdout=subprocess.PIPE, text=True, check=True).stdout.split()] for case in cases}
 
 
@@ -90,37 +93,43 @@ def table(head, rows):
 def main(archive):
     cost, program = measure(archive)
 
-    def per_number(engine, operation, width, plan):
-        found = cost.get((engine, operation, 0, width, plan))
+    def per_number(engine, operation, edition, width, plan):
+        found = cost.get((engine, operation, 0, edition, width, plan))
         return "" if found is None else "%.1f" % (found / NUMBERS)
 
     def grown(engine, width, plan):
-        found = [cost[engine, "lookup", place, width, plan] for place in PLACES]
+        found = [cost[engine, "lookup", place, 1, width, plan] for place in PLACES]
         return ["%.0f" % calls for calls in found] + ["%.1f" % (found[-1] / (PLACES[-1] + 1))]
 
-    def ratio(operation, place, width, plan):
-        library, plain = (cost[engine, operation, place, width, plan] for engine in ENGINES)
+    def ratio(operation, place, edition, width, plan):
+        library, plain = (cost[engine, operation, place, edition, width, plan] for engine in ENGINES)
         return "%.2f" % (library / plain)
+
+    def whole(operation, edition, width, plan):
+        name = NAMES[plan] if edition == 1 else NAMES[plan] + ", edition %d" % edition
+        library, plain, stream = (per_number(engine, operation, edition, width, plan)
+                                  for engine in (*ENGINES, "streamvbyte"))
+        return plan, name, width, library, plain, ratio(operation, 0, edition, width, plan), stream
 
     columns = list(itertools.product(PLANS, WIDTHS))
     compiler = subprocess.run([machine.CC[0], "--version"], stdout=subprocess.PIPE, text=True).stdout.split("\n")[0]
     print("## Instructions a number, of %d\n\nPlain C by %s -O2.\n" % (NUMBERS, compiler))
     print("Numbers: small are below 100, mixed of 1 to 32 bits with each length as often, wide uniform in 32 bits; with 17 "
-          "these are the steps (up to 21 bits), with 18 the values of runs of 1 to 16, with 16 (up to 31 bits) "
-          "1,000,000,000 is added.\n")
+          "these are the steps (up to 21 bits; in edition 2 never 0), with 18 the values of runs of 1 to 16, with 16 "
+          "(up to 31 bits) 1,000,000,000 is added.\n")
     for operation in ("read", "write"):
         print("### %s\n" % operation.capitalize())
         table(("plan", "", "numbers", "library", "plain C", "ratio", "libstreamvbyte"),
-              [(plan, NAMES[plan], width, per_number("library", operation, width, plan),
-                per_number("plain", operation, width, plan), ratio(operation, 0, width, plan),
-                per_number("streamvbyte", operation, width, plan)) for plan, width in columns])
+              [whole(operation, edition, width, plan) for plan in PLANS
+               for edition in ((1, 2) if plan in STRICT else (1,)) for width in WIDTHS])
     print("### Lookup: instructions a call at places %s, a number at the last, and the ratios at the first and the last\n"
           % ", ".join(map(str, PLACES)))
     first, *more = map(str, PLACES)
     table(("plan", "", "numbers", "library: " + first, *more, "a number", "plain C: " + first, *more, "a number",
            "ratio at " + first, "at " + more[-1]),
           [(plan, NAMES[plan], width, *grown("library", width, plan), *grown("plain", width, plan),
-            ratio("lookup", PLACES[0], width, plan), ratio("lookup", PLACES[-1], width, plan)) for plan, width in columns])
+            ratio("lookup", PLACES[0], 1, width, plan), ratio("lookup", PLACES[-1], 1, width, plan))
+           for plan, width in columns])
     if platform.machine() == "x86_64":
         took = times(program)
 

@@ -8,7 +8,7 @@
    call takes less than 32 KB of stack.  No pointer may be null, not even to a slice of length 0, and what a
    call may change (work, output and answers) must not overlap anything else that it is lent.
 
-    1  sheet below 2 or above 65,536 bytes, edition not 1, over 16 columns
+    1  sheet below 2 or above 65,536 bytes, byte 0 neither 1 nor 2, over 16 columns
     2  table cut short, kind above 1, count above 1,024, body lengths not filling the rest
     3  malformed plan
     4  plan not passed for its kind
@@ -16,10 +16,15 @@
     6  place not below the count
     7  output shorter than the answer, or a written sheet would pass 65,536 bytes
     8  work slice too short
-    9  fault in a body
-   10  writing: a list of kind 1 falls
-   11  over 16 orders, kind above 1, count above 1,024, counts not summing to the joined slice
+    9  fault in a body, or a list of kind 1 that does not rise as the sheet's edition means it
+   10  writing: a list of kind 1 that does not rise as the edition means it
+   11  edition neither 1 nor 2, over 16 orders, kind above 1, count above 1,024, counts not summing to the
+       joined slice
    12  board rules broken
+
+   Byte 0 of a sheet is its edition, 1 or 2, and every function that is lent a sheet finds it there.  Kind 0
+   is any list, kind 1 a rising one: in edition 1 no number is below the one before, in edition 2 each is
+   above the one before.  In all else the two editions are the same.
 
    A plan's bytes: codes 1 VByte, 2 group of four, 3 G8IU, 4 Stream VByte, 5 gamma, 6 delta and 7 four-wise
    null suppression; stages 16 reference and 17 differences, each before one plan, and 18 runs before two.
@@ -42,18 +47,20 @@ extern "C" {
 #define PELLUVION_COUNT 1024    /* most numbers a column */
 #define PELLUVION_SHEET 65536   /* most bytes a sheet */
 
-/* Judges a plan for a kind: 0 any, 1 rising.  A plan that is not 15 bytes long is 3. */
+/* Judges a plan for a kind, 0 any or 1 rising, in either edition.  A plan that is not 15 bytes long is 3. */
 uint32_t pelluvion_judge(uint8_t kind, const uint8_t *plan, size_t plan_len);
 
 /* The most bytes that a plan takes for n numbers. */
 uint32_t pelluvion_worst(const uint8_t *plan, size_t plan_len, size_t n, size_t *size);
 
-/* Writes a sheet: column i has kinds[i], the 15 bytes of plans from 15 * i (15 zeros: the default plan) and
-   counts[i] numbers, which stand in `joined` after those of the columns before it.  plans_len not 15 times
-   kinds_len, or counts_len not kinds_len, is 11.  Work: 7 times the largest count. */
-uint32_t pelluvion_write(const uint8_t *kinds, size_t kinds_len, const uint8_t *plans, size_t plans_len,
-                         const uint32_t *counts, size_t counts_len, const uint32_t *joined, size_t joined_len,
-                         uint32_t *work, size_t work_len, uint8_t *out, size_t out_len, size_t *size);
+/* Writes a sheet of an edition, 1 or 2: column i has kinds[i], the 15 bytes of plans from 15 * i (15 zeros:
+   the default plan) and counts[i] numbers, which stand in `joined` after those of the columns before it.
+   Another edition, plans_len not 15 times kinds_len, or counts_len not kinds_len, is 11.  Work: 7 times the
+   largest count. */
+uint32_t pelluvion_write(uint8_t edition, const uint8_t *kinds, size_t kinds_len, const uint8_t *plans,
+                         size_t plans_len, const uint32_t *counts, size_t counts_len, const uint32_t *joined,
+                         size_t joined_len, uint32_t *work, size_t work_len, uint8_t *out, size_t out_len,
+                         size_t *size);
 
 /* Checks a whole sheet.  Refused: the column at fault (0 for 1, 2 and 8).  Work: 8 times the largest count. */
 uint32_t pelluvion_check(const uint8_t *sheet, size_t sheet_len, uint32_t *work, size_t work_len, size_t *column);

@@ -1,5 +1,11 @@
-"""Writes the sample sheets by the independent reading: a night of 208 jobs (job numbers, endings, run times in milliseconds),
-the same with a byte of its third column changed, and the same without its last byte.
+"""Writes the sample sheets by the independent reading: a night of 208 jobs (job numbers, endings, run times in milliseconds).
+
+    night.sheet     edition 1
+    damaged.sheet   the same with a byte of its third column changed
+    cut.sheet       the same without its last byte
+    strict.sheet    the same night in edition 2
+    twice.sheet     edition 2, but two neighbouring jobs have the same number: edition 1's sheet of that with byte 0 set to 2,
+                    which the check refuses by 9 in column 0
 
     python3 samples/make.py"""
 
@@ -13,6 +19,7 @@ import reading
 
 JOBS = 208
 ENDINGS = [0] * 170 + [1] * 14 + [2] * 5 + [77] * 3 + [124] * 6 + [139] * 3 + [256] * 7
+TWICE = 100                     # the place of the job that has the next one's number in twice.sheet
 
 
 def plan(*numbers):
@@ -20,6 +27,7 @@ def plan(*numbers):
 
 
 def night():
+    """Job numbers, endings and run times."""
     rnd = random.Random(20)
     jobs = [41003]
     while len(jobs) < JOBS:
@@ -28,8 +36,18 @@ def night():
     # a job that was killed ran for its whole ten minutes, one that never ended has no time
     fixed = {124: 600000, 256: 0}
     times = [fixed.get(ending, rnd.randrange(800, 95000)) for ending in endings]
+    return jobs, endings, times
+
+
+def written(edition, jobs, endings, times):
     orders = [(1, plan(17, 4), JOBS), (0, plan(18, 2, 1), JOBS), (0, plan(4), JOBS)]
-    return reading.write(orders, jobs + endings + times, 7 * JOBS, 65536)
+    return reading.write(edition, orders, jobs + endings + times, 7 * JOBS, 65536)
+
+
+def changed(sheet, at, value):
+    made = bytearray(sheet)
+    made[at] = value
+    return bytes(made)
 
 
 def store(name, data):
@@ -38,12 +56,14 @@ def store(name, data):
 
 
 def main():
-    sheet = night()
-    changed = bytearray(sheet)
-    changed[-1] = 0
+    jobs, endings, times = night()
+    sheet = written(1, jobs, endings, times)
     store("night", sheet)
-    store("damaged", bytes(changed))
+    store("damaged", changed(sheet, -1, 0))
     store("cut", sheet[:-1])
+    store("strict", written(2, jobs, endings, times))
+    jobs[TWICE] = jobs[TWICE + 1]
+    store("twice", changed(written(1, jobs, endings, times), 0, 2))
 
 
 main()

@@ -1,5 +1,6 @@
 """Runs every marked example of the document, its listing example, each of its "Errors seen in
-earlier code", the decisions 1 to 13 and the examples of request P1 (code 7) against the reading.
+earlier code", the decisions 1 to 13 and the examples of requests P1 (code 7) to P3 (edition 2)
+against the reading.
 Exit status 1 if any differ."""
 
 import sys
@@ -43,11 +44,11 @@ def tree(*numbers):
     return r.parse_plan(plan(*numbers))
 
 
-def sheet(*columns):
+def sheet(*columns, edition=1):
     """A sheet as it stands, nothing judged: columns (kind, plan15, count, body)."""
     table = b"".join(bytes([kind]) + p + r.u32(count) + r.u32(len(body))
                      for kind, p, count, body in columns)
-    return bytes([1, len(columns)]) + table + b"".join(column[3] for column in columns)
+    return bytes([edition, len(columns)]) + table + b"".join(column[3] for column in columns)
 
 
 def code_example(name, code, numbers, text):
@@ -96,7 +97,7 @@ case("plan 16 16 16 16", r.judge(0, plan(16, 16, 16, 16)), 3)
 case("plan 16 16 16 16 1", r.judge(0, plan(16, 16, 16, 16, 1)), 3)
 case("plan 17 1 under kind 0", r.judge(0, plan(17, 1)), 4)
 case("sheet 01 00 passes", named(r.check, hexa("01 00"), 0), None)
-case("sheet 01 00 written", of(r.write, [], [], 0, 2), hexa("01 00"))
+case("sheet 01 00 written", of(r.write, 1, [], [], 0, 2), hexa("01 00"))
 
 LISTED = hexa("01 01" "01 11 01" + 13 * "00" + "03 00 00 00 04 00 00 00" "05 00 80 01")
 LISTING = b"""columns 1
@@ -107,14 +108,14 @@ column 0 rising plan 17 1 count 3 bytes 4
 end
 """
 case("listing example", r.listing(LISTED), LISTING)
-case("listing example written", of(r.write, [(1, NONE, 3)], [5, 5, 133], 21, 30), LISTED)
+case("listing example written", of(r.write, 1, [(1, NONE, 3)], [5, 5, 133], 21, 30), LISTED)
 case("listing example read", of(r.read, LISTED, 0, 21, 3), [5, 5, 133])
 case("listing example fetched", of(r.fetch, LISTED, 0), (26, 4))
 
 # ------------------------------------------------------------ errors seen in earlier code
 
 FIVE = sheet((0, plan(2), 5, hexa("00 01 02 03 04 00 05")))
-case("empty fields: five written", of(r.write, [(0, plan(2), 5)], [1, 2, 3, 4, 5], 35, 99), FIVE)
+case("empty fields: five written", of(r.write, 1, [(0, plan(2), 5)], [1, 2, 3, 4, 5], 35, 99), FIVE)
 case("empty fields: five read", of(r.read, FIVE, 0, 35, 5), [1, 2, 3, 4, 5])
 case("empty fields: place 4", of(r.lookup, FIVE, 0, 4), 5)
 case("empty fields: place 5", of(r.lookup, FIVE, 0, 5), R(6))
@@ -239,7 +240,7 @@ plan_example("plan 17 7 on 5, 5, 133", tree(17, 7), [5, 5, 133], "3F 05 00 80")
 plan_example("plan 18 7 7 on 7, 7, 7, 9", tree(18, 7, 7), [7, 7, 7, 9],
              "02 00 00 00 03 00 00 00 0F 07 09 0F 03 01")
 SEVEN = sheet((0, plan(7), 17, hexa(BATCH + "03 10")))
-case("four-wise sheet written", of(r.write, [(0, plan(7), 17)], list(range(17)), 119, 48), SEVEN)
+case("four-wise sheet written", of(r.write, 1, [(0, plan(7), 17)], list(range(17)), 119, 48), SEVEN)
 case("four-wise sheet read", of(r.read, SEVEN, 0, 119, 17), list(range(17)))
 case("four-wise sheet with a byte changed: check", named(r.check, SEVEN[:-1] + b"\0", 136), None)
 case("four-wise sheet with a mask changed: check",
@@ -252,11 +253,12 @@ case("four-wise sheet with a mask changed: reader", r.calls(SEVEN[:-2] + hexa("0
 case("1 zeros judged", r.judge(0, NONE), 3)
 case("1 zeros worst", of(r.worst, NONE, 1), R(3))
 case("1 zeros in a table", named(r.check, sheet((0, NONE, 0, b"")), 0), ("refused", 3, 0))
-case("1 zeros in an order, kind 0", of(r.write, [(0, NONE, 1)], [128], 7, 99),
+case("1 zeros in an order, kind 0", of(r.write, 1, [(0, NONE, 1)], [128], 7, 99),
      sheet((0, plan(1), 1, hexa("80 01"))))
-case("1 zeros in an order, kind 1", of(r.write, [(1, NONE, 2)], [9, 9], 14, 99),
+case("1 zeros in an order, kind 1", of(r.write, 1, [(1, NONE, 2)], [9, 9], 14, 99),
      sheet((1, plan(17, 1), 2, hexa("09 00"))))
-case("1 worst sheet of zeros", r.worst_sheet([(0, NONE, 3), (1, NONE, 2)]), 2 + 24 + 15 + 24 + 10)
+case("1 worst sheet of zeros", [r.worst_sheet(edition, [(0, NONE, 3), (1, NONE, 2)])
+                                for edition in r.EDITIONS], 2 * [2 + 24 + 15 + 24 + 10])
 
 BAD_LATER = sheet((0, plan(1), 1, b"\5"), (0, plan(17, 1), 0, b""), (0, plan(9), 0, b""))
 case("2 another column's plan: read", of(r.read, BAD_LATER, 0, 7, 1), R(4))
@@ -274,21 +276,21 @@ case("2 the body itself: check", named(r.check, OTHER_BODY, 8), ("refused", 9, 0
 case("3 17 9 under kind 0", r.judge(0, plan(17, 9)), 3)
 case("3 18 17 1 0 under kind 0", r.judge(0, plan(18, 17, 1)), 3)
 case("3 kind 2 first", r.judge(2, plan(9)), 11)
-case("3 earlier 4 before later 3", of(r.write, [(0, plan(17, 1), 0), (0, plan(9), 0)], [], 0, 99),
-     R(4))
+case("3 earlier 4 before later 3",
+     of(r.write, 1, [(0, plan(17, 1), 0), (0, plan(9), 0)], [], 0, 99), R(4))
 
 ONE = [(0, plan(1), 1)]
-case("4 exact size fits", of(r.write, ONE, [5], 7, 27), sheet((0, plan(1), 1, b"\5")))
-case("4 one byte less", of(r.write, ONE, [5], 7, 26), R(7))
-case("4 above 65,536", of(r.write, 16 * [(0, plan(5), 1024)], 16384 * [MAX], 7168, 999999), R(7))
+case("4 exact size fits", of(r.write, 1, ONE, [5], 7, 27), sheet((0, plan(1), 1, b"\5")))
+case("4 one byte less", of(r.write, 1, ONE, [5], 7, 26), R(7))
+case("4 above 65,536", of(r.write, 1, 16 * [(0, plan(5), 1024)], 16384 * [MAX], 7168, 999999), R(7))
 # 15 columns of VByte that fill a sheet exactly: 15,360 numbers, some of 5 bytes, some of 2
 FULL = 15 * [(0, plan(1), 1024)]
 MORE = 65536 - 2 - 24 * 15 - 15360          # bytes beyond one a number
 EXACT = MORE // 4 * [MAX] + MORE % 4 * [128]
 EXACT += (15360 - len(EXACT)) * [0]
-case("4 exactly 65,536", len(of(r.write, FULL, EXACT, 7168, 65536)), 65536)
-case("4 65,537", of(r.write, FULL, EXACT[:-1] + [128], 7168, 70000), R(7))
-case("4 no orders need no work", of(r.write, [], [], 0, 2), hexa("01 00"))
+case("4 exactly 65,536", len(of(r.write, 1, FULL, EXACT, 7168, 65536)), 65536)
+case("4 65,537", of(r.write, 1, FULL, EXACT[:-1] + [128], 7168, 70000), R(7))
+case("4 no orders need no work", of(r.write, 1, [], [], 0, 2), hexa("01 00"))
 
 for code in r.CODES:
     code_example("5 empty list by code %d" % code, code, [], "")
@@ -371,9 +373,9 @@ case("10 a fault again", r.calls(sheet((0, plan(16, 1), 2, HIGH)), 0, 3), 3 * [R
 case("10 ... though place 1 answers", of(r.lookup, sheet((0, plan(16, 1), 2, HIGH)), 0, 1), MAX)
 
 
-def boarded(jobs, endings, kinds=(1, 0), more=()):
+def boarded(jobs, endings, kinds=(1, 0), more=(), edition=1):
     orders = [(kinds[0], NONE, len(jobs)), (kinds[1], NONE, len(endings))] + list(more)
-    return r.write(orders, jobs + endings, 7168, 65536)
+    return r.write(edition, orders, jobs + endings, 7168, 65536)
 
 
 case("11 counts of 0", named(r.board, boarded([], []), 0), (0, 0, 0, 0))
@@ -410,10 +412,124 @@ case("13 read 7 before 9", of(r.read, DAMAGED, 0, 14, 1), R(7))
 case("13 read 9", of(r.read, DAMAGED, 0, 14, 2), R(9))
 case("13 read 5 before 8", of(r.read, DAMAGED, 1, 0, 0), R(5))
 
+# ------------------------------------------------------------ edition 2 (request P3)
+
+case("P3 the editions", r.EDITIONS, (1, 2))
+case("P3 sheet 02 00 passes", named(r.check, hexa("02 00"), 0), None)
+case("P3 sheet 02 00 written", of(r.write, 2, [], [], 0, 2), hexa("02 00"))
+case("P3 sheet 02 00 listed", r.listing(hexa("02 00")), b"columns 0\nend\n")
+case("P3 sheet 02 00 on the board", r.board_text(hexa("02 00")), b"refused 12 column 0\n")
+STRICT = hexa("02 01" "01 11 01" + 13 * "00" + "03 00 00 00 03 00 00 00" "05 01 7F")
+case("P3 strict written", of(r.write, 2, [(1, NONE, 3)], [5, 6, 133], 21, 29), STRICT)
+case("P3 strict written in edition 1", of(r.write, 1, [(1, NONE, 3)], [5, 6, 133], 21, 29),
+     b"\1" + STRICT[1:])
+case("P3 strict read", of(r.read, STRICT, 0, 21, 3), [5, 6, 133])
+case("P3 strict fetched", of(r.fetch, STRICT, 0), (26, 3))
+case("P3 strict listed", r.listing(STRICT),
+     LISTING.replace(b"bytes 4", b"bytes 3").replace(b"1 5", b"1 6"))
+case("P3 strict listed in edition 1", r.listing(b"\1" + STRICT[1:]), r.listing(STRICT))
+case("P3 worst sheet", [r.worst_sheet(edition, [(1, NONE, 3)]) for edition in (1, 2)], [41, 41])
+
+FIVES = b"\2" + LISTED[1:]                              # 5, 5, 133 in edition 2
+case("P3 equal neighbours written", of(r.write, 2, [(1, NONE, 3)], [5, 5, 133], 21, 30), R(10))
+case("P3 equal neighbours: check", named(r.check, FIVES, 24), ("refused", 9, 0))
+case("P3 equal neighbours: read", of(r.read, FIVES, 0, 21, 3), R(9))
+case("P3 equal neighbours: board", named(r.board, FIVES, 24), ("refused", 9, 0))
+case("P3 equal neighbours: listed", r.listing(FIVES), b"refused 9 column 0\n")
+case("P3 equal neighbours: looked up", [of(r.lookup, FIVES, 0, i) for i in range(3)], [5, 5, 133])
+case("P3 equal neighbours: fetched", of(r.fetch, FIVES, 0), (26, 4))
+case("P3 equal neighbours: reader", r.calls(FIVES, 0, 4),
+     [("number", 5), ("number", 5), ("number", 133), R(6)])
+for numbers, editions in (([], (1, 2)), ([0], (1, 2)), ([MAX], (1, 2)), ([0, 1], (1, 2)),
+                          ([0, 0], (1,)), ([MAX, MAX], (1,)), ([MAX - 1, MAX], (1, 2)),
+                          ([3, 4, 4], (1,)), ([3, 3, 4], (1,)), ([3, 4, 9], (1, 2)),
+                          ([3, 4, 3], ()), ([1, 0], ()), ([MAX, 0], ()), ([4, 4, 3], ())):
+    n = len(numbers)
+    for edition in (1, 2):
+        kept = edition in editions
+        for p in (plan(1), plan(16, 4), plan(18, 1, 1)):
+            name = "P3 %s in edition %d by %d " % (numbers, edition, p[0])
+            body = r.write_plan(r.parse_plan(p), numbers)
+            made = sheet((1, p, n, body), edition=edition)
+            case(name + "written", of(r.write, edition, [(1, p, n)], numbers, 7 * n, 999),
+                 made if kept else R(10))
+            case(name + "read", of(r.read, made, 0, 7 * n, n), numbers if kept else R(9))
+            case(name + "checked", named(r.check, made, 8 * n), None if kept else ("refused", 9, 0))
+            case(name + "looked up", [of(r.lookup, made, 0, i) for i in range(n)], numbers)
+            case(name + "of kind 0", of(r.read, made[:2] + b"\0" + made[3:], 0, 7 * n, n), numbers)
+for edition in (1, 2):                                  # inner lists are not asked
+    for p, numbers in ((plan(17, 1), [5, 10, 15]), (plan(17, 1), [9, 10, 12]),
+                       (plan(17, 16, 1), [7, 8, 9]), (plan(18, 17, 1, 1), [1, 2, 4]),
+                       (plan(16, 18, 1, 1), [1, 2, 3]), (plan(17, 18, 1, 1), [4, 8, 12, 13])):
+        made = sheet((1, p, len(numbers), r.write_plan(r.parse_plan(p), numbers)), edition=edition)
+        case("P3 inner list of %s, edition %d" % (numbers, edition), of(r.read, made, 0, 28, 4),
+             numbers)
+    case("P3 17 under kind 0, edition %d" % edition,
+         named(r.check, bytes([edition]) + LISTED[1:2] + b"\0" + LISTED[3:], 24), ("refused", 4, 0))
+    case("P3 17 hands on any, edition %d" % edition,
+         of(r.write, edition, [(1, plan(17, 17, 1), 0)], [], 0, 99), R(4))
+    case("P3 the default plans, edition %d" % edition,
+         of(r.write, edition, [(0, NONE, 1), (1, NONE, 1)], [7, 7], 7, 99),
+         sheet((0, plan(1), 1, b"\7"), (1, plan(17, 1), 1, b"\7"), edition=edition))
+
+for edition in (0, 3, 4, 128, 255):
+    name = "P3 edition %d " % edition
+    other = bytes([edition]) + STRICT[1:]
+    case(name + "written", of(r.write, edition, [(1, NONE, 3)], [5, 6, 133], 21, 29), R(11))
+    case(name + "written, no orders", of(r.write, edition, [], [], 0, 2), R(11))
+    case(name + "written, before any plan",
+         of(r.write, edition, [(0, plan(9), 2), (0, plan(17, 1), 0)], [2, 1], 0, 0), R(11))
+    case(name + "written, before a fall", of(r.write, edition, [(1, NONE, 2)], [2, 1], 0, 0), R(11))
+    case(name + "read", of(r.read, other, 0, 21, 3), R(1))
+    case(name + "looked up", of(r.lookup, other, 0, 0), R(1))
+    case(name + "fetched", of(r.fetch, other, 0), R(1))
+    case(name + "opened", (r.open_reader(other, 0), r.calls(other, 0, 2)), (1, 2 * [R(1)]))
+    case(name + "before a table cut short", of(r.fetch, other[:20], 0), R(1))
+    case(name + "checked, with no work", named(r.check, other, 0), ("refused", 1, 0))
+    case(name + "in the programs", (r.listing(other), r.board_text(other)),
+         2 * (b"refused 1 column 0\n",))
+case("P3 17 columns in edition 2", named(r.check, b"\2\21" + bytes(24 * 17), 0), ("refused", 1, 0))
+
+PAIR = [(1, NONE, 2), (1, NONE, 2)]
+case("P3 each list in turn", of(r.write, 2, PAIR, [1, 2, 3, 3], 14, 99), R(10))
+case("P3 10 before 8 and 7", of(r.write, 2, PAIR, [1, 1, 3, 4], 0, 0), R(10))
+case("P3 a later plan before 10",
+     of(r.write, 2, PAIR + [(0, plan(9), 0)], [1, 1, 3, 3], 0, 0), R(3))
+case("P3 a later plan before 10, by kind",
+     of(r.write, 2, PAIR + [(0, plan(17, 1), 0)], [1, 1, 3, 3], 0, 0), R(4))
+case("P3 11 before 10", of(r.write, 2, PAIR, [1, 1, 3], 0, 0), R(11))
+case("P3 the second column at fault",
+     named(r.check, b"\2" + r.write(1, PAIR, [1, 2, 3, 3], 14, 99)[1:], 16), ("refused", 9, 1))
+case("P3 columns in turn for 9", named(r.check, sheet((0, plan(1), 1, b"\x80"),
+                                                      (1, plan(1), 2, b"\3\3"), edition=2), 16),
+     ("refused", 9, 0))
+case("P3 8 before 9", named(r.check, FIVES, 23), ("refused", 8, 0))
+case("P3 read 8 before 7, 7 before 9", (of(r.read, FIVES, 0, 20, 2), of(r.read, FIVES, 0, 21, 2)),
+     (R(8), R(7)))
+
+JOBS, TWO_JOBS, ENDED = [3, 5, 9, 10], [3, 5, 5, 10], [0, 124, 3, 256]
+case("P3 board in both", [named(r.board, boarded(JOBS, ENDED, edition=e), 32) for e in (1, 2)],
+     2 * [(1, 1, 1, 1)])
+case("P3 the same text in both",
+     r.listing(boarded(JOBS, ENDED, edition=2)), r.listing(boarded(JOBS, ENDED)))
+SAME_JOB = boarded(TWO_JOBS, ENDED)
+SAME_JOB_2 = b"\2" + SAME_JOB[1:]
+case("P3 equal jobs, edition 1, listed", r.listing(SAME_JOB).startswith(b"columns 2\n"), True)
+case("P3 equal jobs, edition 1, board", r.board_text(SAME_JOB), b"refused 12 column 0\n")
+case("P3 equal jobs, edition 2, listed", r.listing(SAME_JOB_2), b"refused 9 column 0\n")
+case("P3 equal jobs, edition 2, board", r.board_text(SAME_JOB_2), b"refused 9 column 0\n")
+case("P3 equal jobs of kind 0, edition 2",
+     named(r.board, boarded(TWO_JOBS, ENDED, (0, 0), edition=2), 32), ("refused", 12, 0))
+RISEN = boarded(JOBS, [0, 0, 1, 256], (1, 1))
+case("P3 equal endings of kind 1, edition 1", named(r.board, RISEN, 32), (2, 1, 0, 1))
+case("P3 equal endings of kind 1, edition 2", named(r.board, b"\2" + RISEN[1:], 32),
+     ("refused", 9, 1))
+
 # ------------------------------------------------------------ refusal numbers and sizes
 
 case("refusal 1: one byte", named(r.check, b"\1", 0), ("refused", 1, 0))
-case("refusal 1: edition 2", named(r.check, b"\2\0", 0), ("refused", 1, 0))
+for byte in (0, 3, 4, 128, 255):
+    case("refusal 1: edition %d" % byte, named(r.check, bytes([byte, 0]), 0), ("refused", 1, 0))
 case("refusal 1: 17 columns", named(r.check, b"\1\21" + bytes(24 * 17), 0), ("refused", 1, 0))
 case("refusal 2: table cut short", named(r.check, LISTED[:25], 24), ("refused", 2, 0))
 case("refusal 2: kind 2", of(r.lookup, sheet((2, plan(9), 0, b"")), 0, 0), R(2))
@@ -432,12 +548,12 @@ case("refusal 3: 8 under a stage", r.judge(0, plan(16, 8)), 3)
 case("refusal 5 before 6", of(r.lookup, LISTED, 1, 99), R(5))
 case("refusal 6", of(r.lookup, LISTED, 0, 3), R(6))
 case("refusal 8: check", named(r.check, LISTED, 23), ("refused", 8, 0))
-case("refusal 8: write before 7", of(r.write, [(0, NONE, 2)], [1, 2], 13, 0), R(8))
-case("refusal 10 before 8", of(r.write, [(1, NONE, 2)], [2, 1], 0, 0), R(10))
-case("refusal 11: 17 orders", of(r.write, 17 * [(0, NONE, 0)], [], 0, 999), R(11))
-case("refusal 11: kind 2", of(r.write, [(2, plan(9), 0)], [], 0, 99), R(11))
-case("refusal 11: count 1,025", of(r.write, [(0, NONE, 1025)], 1025 * [0], 9999, 9999), R(11))
-case("refusal 11: counts and slice", of(r.write, [(0, NONE, 1)], [1, 2], 99, 99), R(11))
+case("refusal 8: write before 7", of(r.write, 1, [(0, NONE, 2)], [1, 2], 13, 0), R(8))
+case("refusal 10 before 8", of(r.write, 1, [(1, NONE, 2)], [2, 1], 0, 0), R(10))
+case("refusal 11: 17 orders", of(r.write, 1, 17 * [(0, NONE, 0)], [], 0, 999), R(11))
+case("refusal 11: kind 2", of(r.write, 1, [(2, plan(9), 0)], [], 0, 99), R(11))
+case("refusal 11: count 1,025", of(r.write, 1, [(0, NONE, 1025)], 1025 * [0], 9999, 9999), R(11))
+case("refusal 11: counts and slice", of(r.write, 1, [(0, NONE, 1)], [1, 2], 99, 99), R(11))
 case("worst: 3 before 11", of(r.worst, plan(9), 1025), R(3))
 case("worst: 11", of(r.worst, plan(1), 1025), R(11))
 case("worst of 5 by each code", [r.worst(plan(c), 5) for c in r.CODES], [25, 22, 27, 22, 41, 27, 22])

@@ -17,6 +17,7 @@ PLACE = os.path.join(ROOT, "target", "meaning-cases")
 CASES = int(sys.argv[1]) if len(sys.argv) > 1 else 600
 RANDOM = random.Random(int(sys.argv[2]) if len(sys.argv) > 2 else 1)
 LARGEST = 2 ** 32 - 1
+OTHER_EDITIONS = (0, 3, 255)
 equations = []
 
 
@@ -46,10 +47,13 @@ def number():
     return LARGEST if RANDOM.random() < 0.1 else RANDOM.randrange(2 ** RANDOM.choice([1, 3, 7, 8, 9, 14, 16, 17, 24, 25, 32, 32]))
 
 
-def numbers(kind, n):
+def numbers(kind, n, edition=1):
+    """n numbers, of kind 1 in order; in edition 2 mostly without equal ones, which may be fewer."""
     xs = [number() for _ in range(n)]
     if RANDOM.random() < 0.4:
         xs = [x for x in xs for _ in range(RANDOM.choice([1, 1, 2, 3]))][:n]
+    if kind == 1 and edition == 2 and RANDOM.random() < 0.7:
+        xs = set(xs)
     return sorted(xs) if kind == 1 else xs
 
 
@@ -66,6 +70,10 @@ def damaged(data):
         else:
             data = data[:RANDOM.randrange(len(data) + 1)]
     return bytes(data)
+
+
+def changed(sheet, at, value):
+    return sheet[:at] + bytes([value]) + sheet[at + 1:]
 
 
 def plan(stages, kind):
@@ -122,44 +130,50 @@ def case_plan():
         says("look %s %s %d %d" % (tree_is, listed(body), n, place), answer(lambda: R.lookup_plan(tree, body, n, place), str))
 
 
-def orders():
+def orders(edition):
     made, joined = [], []
     for column in range(RANDOM.randint(0, 3)):
         kind = 1 if column == 0 and RANDOM.random() < 0.5 else RANDOM.randint(0, 1)
         n = 2 if column < 2 and RANDOM.random() < 0.5 else RANDOM.randint(0, 3)
-        bytes_of_plan, xs = bytes(15) if RANDOM.random() < 0.3 else fill(plan(2, kind)), numbers(kind, n)
+        bytes_of_plan, xs = bytes(15) if RANDOM.random() < 0.3 else fill(plan(2, kind)), numbers(kind, n, edition)
         if column == 1 and RANDOM.random() < 0.7:
             kind, bytes_of_plan = 0, fill([RANDOM.choice(R.CODES)])
             xs = [RANDOM.choice([0, 1, 123, 124, 125, 255, 256, 257]) for _ in xs]
         if RANDOM.random() < 0.05:
             bytes_of_plan = fill(damaged(bytes_of_plan))
-        made.append((RANDOM.randint(0, 2) if RANDOM.random() < 0.05 else kind, bytes_of_plan, n))
+        made.append((RANDOM.randint(0, 2) if RANDOM.random() < 0.05 else kind, bytes_of_plan, len(xs)))
         joined += xs
     return made, joined[:-1] if RANDOM.random() < 0.05 else joined
 
 
-def case_write():
-    made, joined = orders()
-    work, room = RANDOM.choice([0, 14, 21, 100]), RANDOM.choice([0, 50, 1000])
+def written(edition, made, joined, work, room):
     kinds, plans, counts = [k for k, _, _ in made], b"".join(p for _, p, _ in made), [c for _, _, c in made]
-    says("writeApart %s %s %s %s %d %d" % (listed(kinds), listed(plans), listed(counts), listed(joined), work, room),
-         answer(lambda: R.write(made, joined, work, room), listed))
+    says("writeApart %d %s %s %s %s %d %d" % (edition, listed(kinds), listed(plans), listed(counts), listed(joined), work, room),
+         answer(lambda: R.write(edition, made, joined, work, room), listed))
+
+
+def case_write():
+    edition = RANDOM.choice(R.EDITIONS)
+    made, joined = orders(edition)
+    work, room = RANDOM.choice([0, 14, 21, 100]), RANDOM.choice([0, 50, 1000])
+    written(RANDOM.choice(OTHER_EDITIONS) if RANDOM.random() < 0.05 else edition, made, joined, work, room)
 
 
 def drawn_sheet():
+    edition = RANDOM.choice(R.EDITIONS)
     try:
-        sheet = R.write(*orders(), 100, 1000)
+        sheet = R.write(edition, *orders(edition), 100, 1000)
     except R.Refused:
-        sheet = b"\x01\x00"
+        sheet = bytes([edition, 0])
+    if RANDOM.random() < 0.15:
+        sheet = changed(sheet, 0, RANDOM.choice(R.EDITIONS + R.EDITIONS + OTHER_EDITIONS))
     return damaged(sheet) if RANDOM.random() < 0.6 else sheet
 
 
-def case_sheet():
-    sheet = drawn_sheet()
-    work, column, place, call = RANDOM.choice([0, 14, 16, 24, 100, 100, 100]), RANDOM.randint(0, 2), RANDOM.randint(0, 3), RANDOM.randint(0, 3)
+def asked(sheet, work, column, place, call, room=2):
     shown = listed(sheet)
     says("check %s %d" % (shown, work), verdict(lambda: R.check(sheet, work), lambda _: "passed"))
-    says("readSheet %s %d %d 2" % (shown, column, work), answer(lambda: R.read(sheet, column, work, 2), listed))
+    says("readSheet %s %d %d %d" % (shown, column, work, room), answer(lambda: R.read(sheet, column, work, room), listed))
     says("lookSheet %s %d %d" % (shown, column, place), answer(lambda: R.lookup(sheet, column, place), str))
     says("fetch %s %d" % (shown, column), answer(lambda: R.fetch(sheet, column), lambda t: listed(sheet[t[0]:t[0] + t[1]])))
     kind, value = R.calls(sheet, column, call + 1)[call]
@@ -169,28 +183,51 @@ def case_sheet():
     says("countBoard %s %d" % (shown, work), "(%s)" % (told if told.startswith("passed") else told + ", " + tally % (0, 0, 0, 0)))
 
 
+def case_sheet():
+    work, column, place, call = RANDOM.choice([0, 14, 16, 24, 100, 100, 100]), RANDOM.randint(0, 2), RANDOM.randint(0, 3), RANDOM.randint(0, 3)
+    asked(drawn_sheet(), work, column, place, call)
+
+
 def programs(given):
     says("listingText %s" % listed(given), listed(R.listing(given)))
     says("boardText %s" % listed(given), listed(R.board_text(given)))
 
 
-def changed(sheet, at, value):
-    return sheet[:at] + bytes([value]) + sheet[at + 1:]
+def case_editions():
+    """Lists of kind 1 that rise, have equal neighbours or fall, in every edition; another edition is 11 before any plan, and 1 on a sheet."""
+    lists = [5, 6, 133], [5, 5, 133], [5, 133, 133], [5, 6, 5], [LARGEST, LARGEST], [LARGEST - 1, LARGEST], [LARGEST], []
+    for edition in R.EDITIONS + OTHER_EDITIONS:
+        for bytes_of_plan in fill([17, 1]), fill([1]), bytes(15):
+            for xs in lists:
+                written(edition, [(1, bytes_of_plan, len(xs))], xs, 21, 100)
+        written(edition, [], [], 0, 2)
+        written(edition, [(0, fill([4]), 3)], [7, 7, 6], 21, 100)
+        written(edition, [(1, fill([17, 1]), 1), (1, fill([1]), 2)], [9, 3, 3], 14, 100)
+        written(edition, [(0, fill([9]), 0), (1, fill([1]), 2)], [3, 3], 14, 100)
+        written(edition, [(0, fill([17, 1]), 0), (1, fill([1]), 2)], [3, 3], 14, 100)
+        written(edition, [(1, fill([1]), 2)], [3, 3], 0, 0)
+        for xs in lists if edition in R.EDITIONS else lists[:2]:
+            sheet = R.write(1, 2 * [(0, fill([1]), len(xs))], xs + [0] * len(xs), 21, 100)
+            asked(changed(changed(sheet, 0, edition), 2, 1), 24, 0, 1, 1, room=3)
 
 
 def case_programs():
     """The document's listing, its refusals, the board's rules, columns and places of two digits; then sheets as drawn."""
     def sheet(*columns):
-        return R.write([(kind, fill(p), len(xs)) for kind, p, xs in columns], [x for _, _, xs in columns for x in xs], 7 * 1024, 65536)
+        return R.write(1, [(kind, fill(p), len(xs)) for kind, p, xs in columns], [x for _, _, xs in columns for x in xs], 7 * 1024, 65536)
 
-    example, jobs = sheet((1, [17, 1], [5, 5, 133])), (1, [17, 1], [3, 4, 9, 10])
+    example, strict, jobs = sheet((1, [17, 1], [5, 5, 133])), sheet((1, [17, 1], [5, 6, 134])), (1, [17, 1], [3, 4, 9, 10])
     board = sheet(jobs, (0, [1], [0, 1, 255, 256]))
-    whole = [b"", b"\1", b"\1\0", b"\2\0", b"\1\x11", example, example[:20], example + b"\0", board]
+    whole = [b"\1", b"\1\0", b"\1\x11", example, strict, example[:20], example + b"\0", board]
     # kind 2; an unknown number in a plan, one after its end; differences of kind 0; a last byte of 0; the same in column 1
-    whole += [changed(example, at, value) for at, value in ((2, 2), (4, 9), (6, 1), (2, 0), (29, 0))]
+    whole += [changed(strict, at, value) for at, value in ((2, 2), (4, 9), (6, 1), (2, 0), (29, 0))]
     whole += [changed(board, at, value) for at, value in ((26, 2), (27, 8), (len(board) - 1, 0))] + [changed(sheet(jobs, jobs), 26, 0)]
     whole += [sheet(jobs, (kind, [1], endings)) for kind, endings in ((1, [0, 0, 0, 256]), (0, [123, 124, 125, 124]), (0, [0, 1, 255, 257]), (0, [0, 1, 255]))]
     whole += [sheet((kind, [1], xs), (0, [1], [0] * len(xs))) for kind, xs in ((1, []), (0, [3, 4]), (1, [3, 4, 4]))]
+    whole.append(changed(sheet((0, [1], [4, 3]), (0, [1], [0, 0])), 2, 1))
+    # all of these in both editions: 5, 5, 133 and the other equal neighbours of kind 1 are a fault in edition 2
+    whole = [changed(given, 0, edition) for given in whole for edition in R.EDITIONS]
+    whole += [b""] + [changed(given, 0, edition) for given in (b"\1\0", example, board) for edition in OTHER_EDITIONS]
     whole += [sheet(*[(0, [18, 16, code % 7 + 1, 5], [LARGEST, code]) for code in range(12)]), sheet((0, [2], list(range(95, 107))))]
     whole.append(sheet((1, [17, 18, 1, 1], list(range(1, 1025))), (0, [18, 1, 1], 1024 * [256])))
     for given in whole + [drawn_sheet() for _ in range(CASES // 20)]:
@@ -218,6 +255,7 @@ def text():
 def main():
     for i in range(CASES):
         [case_code, case_judge, case_plan, case_write, case_sheet][i % 5]()
+    case_editions()
     case_programs()
     shutil.rmtree(PLACE, ignore_errors=True)
     os.makedirs(os.path.join(PLACE, "crates/cases/src"))

@@ -1,10 +1,11 @@
 """A plain reading of the sheet document (01-scope.md), written from its text alone, with
-requests P1 and P2 (02-change-requests.md): code 7, four-wise null suppression; 124 is a kill.
+requests P1, P2 and P3 (02-change-requests.md): code 7, four-wise null suppression; 124 is a
+kill; edition 2, in which kind 1 means each number above the one before.
 
 It shares nothing with the proved code and is there to be compared with it.  Where the
 document leaves room, "Decisions on open questions" 1 to 13 hold and are named in comments.
 Sheets, plans and bodies are `bytes`; lists are Python lists of ints from 0 to 2^32 - 1.
-A place counts numbers, an offset counts bytes.
+A place counts numbers, an offset counts bytes.  What reads a sheet takes its edition from byte 0.
 """
 
 from itertools import accumulate, groupby, islice
@@ -13,6 +14,7 @@ MOST_NUMBER, MOST_COLUMNS, MOST_COUNT, MOST_SHEET = 2**32 - 1, 16, 1024, 65536
 VBYTE, GROUPS, G8IU, STREAM, GAMMA, DELTA, FOURWISE = CODES = (1, 2, 3, 4, 5, 6, 7)
 REFERENCE, DIFFERENCES, RUNS = 16, 17, 18
 ANY, RISING = 0, 1
+EDITIONS = (1, 2)
 NO_PLAN = bytes(15)
 DEFAULT = {ANY: bytes([1] + 14 * [0]), RISING: bytes([17, 1] + 13 * [0])}
 
@@ -49,9 +51,18 @@ def fewest(x):
     """The fewest bytes that hold x; zero takes one byte."""
     return max(1, up(x.bit_length(), 8))
 
-def rises(numbers):
-    """No number below the one before."""
-    return all(a <= b for a, b in zip(numbers, numbers[1:]))
+def entry_size(edition):
+    """The bytes of a table entry, by the sheet's edition."""
+    return {1: 24, 2: 24}[edition]
+
+def of_kind(edition, kind, numbers):
+    """What a column's kind asks of its list, by the sheet's edition (request P3)."""
+    neighbours = zip(numbers, numbers[1:])
+    if kind == ANY:
+        return True
+    if edition == 1:
+        return all(a <= b for a, b in neighbours)       # no number below the one before
+    return all(a < b for a, b in neighbours)            # each number above the one before
 
 # ------------------------------------------------------------ codes: writing a list
 
@@ -410,10 +421,11 @@ def lookup_plan(tree, body, n, place):
 
 # ------------------------------------------------------------ the sheet
 
-def write(orders, joined, work_len, out_len):
-    """A sheet from orders (kind, plan15, count) and one list with all lists joined.
+def write(edition, orders, joined, work_len, out_len):
+    """A sheet of an edition from orders (kind, plan15, count) and one list with all lists joined.
     Refuses: 11; each plan in turn, 3 before 4; each list in turn 10; 8; 7."""
-    if (len(orders) > MOST_COLUMNS
+    if (edition not in EDITIONS         # request P3: another edition is 11, with the other 11s
+            or len(orders) > MOST_COLUMNS
             or any(kind > 1 or count > MOST_COUNT for kind, _, count in orders)
             or sum(count for _, _, count in orders) != len(joined)):
         raise Refused(11)
@@ -424,7 +436,7 @@ def write(orders, joined, work_len, out_len):
         columns.append((kind, plan, judged(kind, plan), joined[begin:begin + count]))
         begin += count
     for kind, _, _, numbers in columns:
-        if kind == RISING and not rises(numbers):
+        if not of_kind(edition, kind, numbers):
             raise Refused(10)
     if work_len < 7 * max([count for _, _, count in orders], default=0):
         raise Refused(8)
@@ -433,26 +445,28 @@ def write(orders, joined, work_len, out_len):
         body = write_plan(tree, numbers)
         entries += bytes([kind]) + plan + u32(len(numbers)) + u32(len(body))
         bodies += body
-    sheet = bytes([1, len(columns)]) + entries + bodies
+    sheet = bytes([edition, len(columns)]) + entries + bodies
     if len(sheet) > out_len or len(sheet) > MOST_SHEET:     # decision 4: the exact size
         raise Refused(7)
     return sheet
 
-def worst_sheet(orders):
-    """2, 24 a column, the plans' sums, of the plans really used; each order in turn 3, 11."""
-    return 2 + sum(24 + worst(DEFAULT.get(kind, plan) if plan == NO_PLAN else plan, count)
-                   for kind, plan, count in orders)
+def worst_sheet(edition, orders):
+    """2, an entry a column, the plans' sums, of the plans really used; each order in turn 3, 11."""
+    used = [(DEFAULT.get(kind, plan) if plan == NO_PLAN else plan, count)
+            for kind, plan, count in orders]
+    return 2 + sum(entry_size(edition) + worst(plan, count) for plan, count in used)
 
 def columns_of(sheet, naming=False):
     """All columns, each (kind, plan15, tree, count, offset, length).  Refuses 1; 2; each plan
     in turn, 3 before 4 (decision 2: of all columns).  Only check and board name the column."""
-    if not 2 <= len(sheet) <= MOST_SHEET or sheet[0] != 1 or sheet[1] > MOST_COLUMNS:
+    if not 2 <= len(sheet) <= MOST_SHEET or sheet[0] not in EDITIONS or sheet[1] > MOST_COLUMNS:
         raise Refused(1)
-    bodies = 2 + 24 * sheet[1]
+    size = entry_size(sheet[0])
+    bodies = 2 + size * sheet[1]
     if len(sheet) < bodies:                                 # table cut short
         raise Refused(2)
     entries, offset = [], bodies
-    for at in range(2, bodies, 24):
+    for at in range(2, bodies, size):
         count, length = header(sheet, at + 16), header(sheet, at + 20)
         entries.append((sheet[at], sheet[at + 1:at + 16], count, offset, length))
         if sheet[at] > 1 or count > MOST_COUNT:
@@ -476,10 +490,11 @@ def column_at(sheet, index):
     return columns[index]
 
 def column_list(sheet, column):
-    """Reading a column applies all of this, and kind 1 must rise (decision 9: tested last)."""
+    """Reading a column applies all of this, and kind 1 must rise, as the sheet's edition means it
+    (decision 9: tested last, and of the column's list alone)."""
     kind, _, tree, count, offset, length = column
     numbers = read_plan(tree, sheet[offset:offset + length], count)
-    fault_if(kind == RISING and not rises(numbers))
+    fault_if(not of_kind(sheet[0], kind, numbers))
     return numbers
 
 def read(sheet, column, work_len, out_len):
@@ -540,7 +555,7 @@ def board(sheet, work_len):
     columns, lists = checked(sheet, work_len)
     if len(columns) < 2 or len(lists[0]) != len(lists[1]) or columns[0][0] != RISING:
         raise Refused(12)
-    jobs, endings = lists[:2]
+    jobs, endings = lists[:2]               # equal neighbours: in edition 2 the check found them
     if any(a == b for a, b in zip(jobs, jobs[1:])) or any(x > 256 for x in endings):
         raise Refused(12)
     killed = endings.count(124)             # request P2: for 124 alone, and failed is 1 to 255 without it

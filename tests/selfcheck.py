@@ -1,13 +1,15 @@
 """Random self-consistency of the reading: what is written is read back, what is read is written
-back byte for byte, lookups agree with reading, sizes keep to the worst size, also on damage.
+back byte for byte, lookups agree with reading, sizes keep to the worst size, also on damage, all of
+it in both editions.
 
     python3 selfcheck.py [rounds] [seed]
 
-Exit status 1 on any difference."""
+Exit status 1 on any difference, and when enough rounds did not meet each case of MUST_MEET."""
 
 import random
 import sys
 import time
+from itertools import accumulate, product
 sys.dont_write_bytecode = True
 import reading as r
 
@@ -16,6 +18,15 @@ SEED = int(sys.argv[2]) if len(sys.argv) > 2 else 1
 rnd = random.Random(SEED)
 MAX = 2**32 - 1
 WIDE_WORK = 8192
+OTHER_EDITIONS = (0, 3, 4, 128, 255)
+ENOUGH = 5000               # rounds that are sure to meet what must be met
+MUST_MEET = {"%s in edition %d" % case for case in product(
+    ("written", "refused 10: it falls", "sheet passed", "board", "board refused 12",
+     "damaged sheet passed", "damaged sheet refused 1", "damaged sheet refused 2",
+     "damaged sheet refused 3", "damaged sheet refused 4", "damaged sheet refused 9"), r.EDITIONS)}
+MUST_MEET |= {"equal neighbours written in edition 1", "refused 10: equal neighbours in edition 2",
+              "edition 1 as 2: refused 9", "edition 1 as 2: passed", "edition 2 as 1: passed",
+              "written in another edition: 11", "damaged sheet refused 1 in another edition"}
 differ = 0
 seen = {}
 
@@ -53,7 +64,15 @@ def random_number():
                        min(MAX, top + rnd.randrange(3))))
 
 
-def random_list(kind, n):
+def apart(numbers):
+    """As many numbers, each above the one before: moved up where they are not, then down where
+    they would pass 2^32 - 1."""
+    raised = list(accumulate(numbers, lambda before, x: max(before + 1, x)))
+    return [min(x, MAX + 1 - left) for x, left in zip(raised, range(len(raised), 0, -1))]
+
+
+def random_list(kind, n, edition=1):
+    """A list of the kind in the edition."""
     shape = rnd.choice(("small", "mixed", "32-bit", "runs", "far", "ones"))
     if shape == "small":
         numbers = [rnd.randrange(200) for _ in range(n)]
@@ -71,7 +90,9 @@ def random_list(kind, n):
         numbers = [base + rnd.randrange(500) for _ in range(n)]
     else:
         numbers = n * [random_number()]
-    return sorted(numbers) if kind == 1 else numbers
+    if kind == 0:
+        return numbers
+    return apart(sorted(numbers)) if edition == 2 else sorted(numbers)
 
 
 def random_tree(kind, depth=4):
@@ -325,12 +346,19 @@ def round_plan():
         same("worst", of(r.worst, plan, 1025), ("refused", 11), plan)
 
 
+def edition_of(sheet):
+    """For counting what was met."""
+    if not sheet:
+        return "no edition"
+    return "edition %d" % sheet[0] if sheet[0] in r.EDITIONS else "another edition"
+
+
 def random_sheet():
-    """Orders, lists and the sheet."""
-    orders, lists = [], []
+    """Lists and the sheet."""
+    edition, orders, lists = rnd.choice(r.EDITIONS), [], []
     for _ in range(rnd.choice((0, 1, 1, 2, 2, 3, 4, 16 if rnd.random() < 0.1 else 2))):
         kind = rnd.randrange(2)
-        numbers = random_list(kind, random_count())
+        numbers = random_list(kind, random_count(), edition)
         plan = bytes(15) if rnd.random() < 0.2 else fill(random_tree(kind))
         orders.append((kind, plan, len(numbers)))
         lists.append(numbers)
@@ -338,25 +366,29 @@ def random_sheet():
         jobs = sorted(rnd.sample(range(5000), len(lists[1])))
         lists[:2] = [jobs, [rnd.choice((0, 1, 123, 124, 125, 255, 256)) for _ in jobs]]
         orders[:2] = [(1, fill(random_tree(1)), len(jobs)), (0, fill(random_tree(0)), len(jobs))]
-    return orders, lists, r.write(orders, sum(lists, []), WIDE_WORK, 65536)
+    return lists, r.write(edition, orders, sum(lists, []), WIDE_WORK, 65536)
 
 
 def sheet_agrees(sheet, lists):
-    """A sheet that passed: rewriting, readers, programs."""
-    columns = r.columns_of(sheet)
+    """A sheet that passed: rewriting in its edition, kinds, readers, programs."""
+    edition, columns = sheet[0], r.columns_of(sheet)
     orders = [(column[0], column[1], column[3]) for column in columns]
     joined = sum(lists, [])
     most = max([len(numbers) for numbers in lists], default=0)
-    same("rewritten", of(r.write, orders, joined, 7 * most, len(sheet)), sheet, orders)
-    same("rewritten, 7", of(r.write, orders, joined, 7 * most, len(sheet) - 1), ("refused", 7))
-    same("within worst sheet", len(sheet) <= r.worst_sheet(orders), True, orders)
+    again = edition, orders, joined
+    same("rewritten", of(r.write, *again, 7 * most, len(sheet)), sheet, orders)
+    same("rewritten, 7", of(r.write, *again, 7 * most, len(sheet) - 1), ("refused", 7))
+    same("within worst sheet", len(sheet) <= r.worst_sheet(edition, orders), True, orders)
     if most:
-        same("rewritten, 8", of(r.write, orders, joined, 7 * most - 1, 0), ("refused", 8))
+        same("rewritten, 8", of(r.write, *again, 7 * most - 1, 0), ("refused", 8))
         same("check, 8", of(r.check, sheet, 8 * most - 1), ("refused", 8), sheet)
     lines = r.listing(sheet).decode().split("\n")
     at = 1
     for index, numbers in enumerate(lists):
         n = len(numbers)
+        if columns[index][0] == 1:
+            risen = sorted(numbers) if edition == 1 else sorted(set(numbers))
+            same("kind 1", numbers, risen, sheet, index)
         same("read", of(r.read, sheet, index, 7 * n, n), numbers, sheet, index)
         offset, length = r.fetch(sheet, index)
         same("fetched", r.read_plan(columns[index][2], sheet[offset:offset + length], n), numbers)
@@ -370,27 +402,42 @@ def sheet_agrees(sheet, lists):
     same("listed end", lines[at:], ["end", ""], sheet)
     tallies = of(r.board, sheet, WIDE_WORK)
     if tallies == ("refused", 12):
+        count("board refused 12 in %s" % edition_of(sheet))
         same("board refused", r.board_text(sheet), b"refused 12 column 0\n")
     else:
-        count("boards")
+        count("board in %s" % edition_of(sheet))
         same("tallies", sum(tallies), len(lists[0]), sheet)
         same("killed", tallies[2], sum(ending == 124 for ending in lists[1]), sheet)
         same("strictly rising", lists[0], sorted(set(lists[0])), sheet)
 
 
+def damaged_sheet(sheet):
+    """Damage anywhere, and often the edition or a kind changed."""
+    way = rnd.random()
+    if way < 0.2:
+        sheet = bytes([rnd.choice(r.EDITIONS + OTHER_EDITIONS)]) + sheet[1:]
+    elif way < 0.4 and sheet[1] > 0:
+        at = 2 + r.entry_size(sheet[0]) * rnd.randrange(sheet[1])
+        sheet = sheet[:at] + bytes([1 - sheet[at]]) + sheet[at + 1:]
+    return sheet if way < 0.3 else damage(sheet)
+
+
 def round_sheet():
-    orders, lists, sheet = random_sheet()
+    lists, sheet = random_sheet()
+    count("sheet passed in %s" % edition_of(sheet))
     same("check", of(r.check, sheet, WIDE_WORK), None, sheet)
     sheet_agrees(sheet, lists)
+    as_other_edition(sheet, lists)
     for _ in range(3):
-        damaged = damage(sheet)
+        damaged = damaged_sheet(sheet)
         got = of(r.check, damaged, WIDE_WORK)
         columns = damaged[1] if len(damaged) > 1 else 0
         if got is None:
-            count("damaged sheets passed" if damaged != sheet else "sheets unchanged")
+            count("sheet unchanged" if damaged == sheet
+                  else "damaged sheet passed in %s" % edition_of(damaged))
             sheet_agrees(damaged, [r.read(damaged, i, WIDE_WORK, 1024) for i in range(columns)])
             continue
-        count("damaged sheets refused %d" % got[1])
+        count("damaged sheet refused %d in %s" % (got[1], edition_of(damaged)))
         same("check refuses", got[1] in (1, 2, 3, 4, 9), True, damaged)
         if got[1] != 9:
             same("reader refused", (r.open_reader(damaged, 0), r.calls(damaged, 0, 2)),
@@ -401,6 +448,61 @@ def round_sheet():
             faulty = [i for i, x in enumerate(reads) if x == ("refused", 9)]
             line = b"refused 9 column %d\n" % faulty[0]
             same("first at fault", (r.listing(damaged), r.board_text(damaged)), (line, line), damaged)
+
+
+def as_other_edition(sheet, lists):
+    """A sheet that passed with its edition changed: what reading asks of kind 1 is the other
+    edition's, and all else is as it was."""
+    other = bytes([3 - sheet[0]]) + sheet[1:]
+    kinds = [column[0] for column in r.columns_of(other)]
+    twice = [i for i, kind in enumerate(kinds) if kind == 1 and len(set(lists[i])) < len(lists[i])]
+    told = "edition %d as %d: " % (sheet[0], other[0])
+    if twice:                           # only an edition 1 sheet has equal neighbours
+        count(told + "refused 9")
+        same(told + "its edition", sheet[0], 1, sheet)
+        line = b"refused 9 column %d\n" % twice[0]
+        same(told + "programs", (r.listing(other), r.board_text(other)), (line, line), sheet)
+    else:
+        count(told + "passed")
+        same(told + "listing", r.listing(other), r.listing(sheet), sheet)
+        same(told + "board", r.board_text(other), r.board_text(sheet), sheet)
+    for index, numbers in enumerate(lists):
+        n = len(numbers)
+        same(told + "read", of(r.read, other, index, 7 * n, n),
+             ("refused", 9) if index in twice else numbers, sheet, index)
+        same(told + "fetched", r.fetch(other, index), r.fetch(sheet, index), sheet, index)
+        for place in places(n)[:3]:
+            same(told + "lookup", of(r.lookup, other, index, place), numbers[place], sheet, index)
+
+
+def round_editions():
+    """One list of kind 1, that may fall or have equal neighbours, written in every edition."""
+    numbers = random_list(1, random_count(), rnd.choice(r.EDITIONS))
+    way, at = rnd.randrange(3), rnd.randrange(1, max(2, len(numbers)))
+    if way == 0 and len(numbers) > 1:
+        numbers[at] = numbers[at - 1]
+    elif way == 1:
+        numbers.insert(at, random_number())
+    orders, n = [(1, fill(random_tree(1)), len(numbers))], len(numbers)
+    falls, twice = numbers != sorted(numbers), len(set(numbers)) < n
+    sheets = {}
+    for edition in r.EDITIONS + OTHER_EDITIONS:
+        got = of(r.write, edition, orders, numbers, 7 * n, 65536)
+        if edition not in r.EDITIONS:
+            count("written in another edition: 11")
+            same("another edition", got, ("refused", 11), edition, numbers)
+        elif falls or (twice and edition == 2):
+            what = "it falls" if falls else "equal neighbours"
+            count("refused 10: %s in edition %d" % (what, edition))
+            same("refused 10", got, ("refused", 10), edition, numbers)
+        else:
+            what = "equal neighbours written" if twice else "written"
+            count("%s in edition %d" % (what, edition))
+            same("edition written", got[0], edition, numbers)
+            same("edition read", of(r.read, got, 0, 7 * n, n), numbers, got)
+            sheets[edition] = got
+    if len(sheets) == 2:
+        same("but for byte 0", sheets[1][1:], sheets[2][1:], numbers)
 
 
 start = time.time()
@@ -415,6 +517,7 @@ for i in range(ROUNDS):
     elif turn < 8:
         round_plan()
         round_batches()
+        round_editions()
     else:
         round_sheet()
 for code in r.CODES:            # the longest lists, the worst numbers
@@ -425,7 +528,10 @@ for code in r.CODES:            # the longest lists, the worst numbers
         same("long lookup", of(r.lookup_code, code, body, 1024, 1023), numbers[1023], code)
         if numbers[0] == MAX == numbers[1]:
             same("worst reached", len(body), r.worst(fill((code,)), 1024), code)
+unmet = sorted(MUST_MEET - set(seen)) if ROUNDS >= ENOUGH else []
+for what in unmet:
+    print("never met: %s" % what)
 print("%d rounds, seed %d, %d differ, %.0f s; %s"
       % (ROUNDS, SEED, differ, time.time() - start,
          ", ".join("%s %d" % (k, seen[k]) for k in sorted(seen))))
-sys.exit(1 if differ else 0)
+sys.exit(1 if differ or unmet else 0)

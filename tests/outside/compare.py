@@ -2,7 +2,8 @@
 
     python3 compare.py ARCHIVE [OPERATIONS [SEED]]
 
-Compares every answer, the whole output, and that nothing else changed.  Exit status 1 if any differ."""
+Compares every answer, the whole output, and that nothing else changed.  Exit status 1 if any differ, or if SURE
+operations or more did not meet each refusal that an operation can give, in each edition."""
 
 import collections
 import multiprocessing
@@ -23,6 +24,11 @@ NAMES = ("judge", "worst", "write", "check", "read", "lookup", "fetch", "board")
 REQUEST, RESULT = struct.Struct("<IIQQII4I"), struct.Struct("<II5QQ")
 TROUBLE = {1: "an input changed", 2: "bytes before a slice changed", 4: "stopped by a signal (its number)"}
 CHUNK, SHOWN, ENOUGH = 1000, 5, 2000       # operations a driver; differences shown; when to stop
+SURE = 100000                              # operations that meet all of what can be met
+NUMBERS = {"judge": (0, 3, 4, 11), "worst": (0, 3, 11), "write": (0, 3, 4, 7, 8, 10, 11),
+           "check": (0, 1, 2, 3, 4, 8, 9), "read": (0, 1, 2, 3, 4, 5, 7, 8, 9), "lookup": (0, 1, 2, 3, 4, 5, 6, 9),
+           "fetch": (0, 1, 2, 3, 4, 5), "board": (0, 1, 2, 3, 4, 8, 9, 12)}
+NO_EDITION, OTHER, EQUAL = "", "other", "equal"       # EQUAL: the editions part here, at equal neighbours of kind 1
 
 Result = collections.namedtuple("Result", "number trouble answers out")
 
@@ -42,7 +48,7 @@ def answered(op):
         if len(plans) != 15 * len(kinds) or len(counts) != len(kinds):
             raise r.Refused(11)
         orders = [(kind, plans[15 * i:15 * i + 15], counts[i]) for i, kind in enumerate(kinds)]
-        sheet = r.write(orders, joined, op.work, op.out)
+        sheet = r.write(a, orders, joined, op.work, op.out)
         return (len(sheet),), sheet
     if op.what == "check":
         r.check(first, op.work)
@@ -64,6 +70,44 @@ def expected(op):
         number, answers, front = e.number, (e.column if op.what in ("check", "board") else 0,), b""
     answers = (answers + (0, 0, 0, 0, 0))[:5]
     return Result(number, 0, answers, front + bytes([op.fill]) * (op.out - len(front)))
+
+
+def edition_of(op):
+    """1, 2 or another, of an operation that has an edition."""
+    if op.what in ("judge", "worst"):
+        return NO_EDITION
+    told = op.a if op.what == "write" else op.inputs[0][0] if op.inputs[0] else 0
+    return told if told in r.EDITIONS else OTHER
+
+
+def in_edition(op, edition):
+    """The same operation asked in an edition, or on a sheet of it."""
+    if op.what == "write":
+        return op._replace(a=edition)
+    return op._replace(inputs=(bytes([edition]) + op.inputs[0][1:],) + op.inputs[1:])
+
+
+def met_by(op, number):
+    """What an operation met: its name, its edition, the number, and whether only edition 2 refuses it by 9 or 10."""
+    edition, equal = edition_of(op), False
+    if edition == 1 and number in (0, 12):
+        equal = expected(in_edition(op, 2)).number in (9, 10)
+    elif edition == 2 and number in (9, 10):
+        equal = expected(in_edition(op, 1)).number != number
+    return op.what, edition, number, EQUAL if equal else ""
+
+
+def to_meet():
+    """All that has to be met."""
+    for name, numbers in NUMBERS.items():
+        if name in ("judge", "worst"):
+            yield from ((name, NO_EDITION, number, "") for number in numbers)
+            continue
+        yield from ((name, edition, number, "") for edition in r.EDITIONS for number in numbers)
+        yield name, OTHER, 11 if name == "write" else 1, ""
+    for name, first, second in (("write", 0, 10), ("check", 0, 9), ("read", 0, 9), ("board", 12, 9)):
+        yield name, 1, first, EQUAL
+        yield name, 2, second, EQUAL
 
 
 def numbers_of(words):
@@ -99,11 +143,11 @@ def described(op, got, wanted):
 
 
 def chunk(task):
-    """Compares one chunk: how often each operation met each number, how many differ, the first of them."""
+    """Compares one chunk: how often each operation met what, how many differ, the first of them."""
     driver, seed, many = task
     operations = generate.operations(seed, many)
     wanted = [expected(op) for op in operations]
-    met = collections.Counter((op.what, result.number) for op, result in zip(operations, wanted))
+    met = collections.Counter(met_by(op, result.number) for op, result in zip(operations, wanted))
     differ = [described(op, got, want) for op, got, want in zip(operations, asked(driver, operations), wanted)
               if got != want]
     return met, len(differ), differ[:SHOWN]
@@ -120,14 +164,17 @@ def main(archive, many=200000, seed=1):
             shown += lines
             if differ >= ENOUGH:
                 break
-    for name in NAMES:
-        numbers = sorted(number for what, number in met if what == name)
-        print("%-6s %7d: %s" % (name, sum(met[name, number] for number in numbers),
-                                ", ".join("%d x %d" % (met[name, number], number) for number in numbers)))
+    for name, edition in sorted({case[:2] for case in met}, key=lambda case: (NAMES.index(case[0]), str(case[1]))):
+        cases = sorted(case for case in met if case[:2] == (name, edition))
+        print("%-6s %-7s %7d: %s" % (name, edition and "in %s" % edition, sum(met[case] for case in cases),
+                                     ", ".join(("%d x %d %s" % (met[case], *case[2:])).strip() for case in cases)))
     for lines in shown[:SHOWN]:
         print(lines)
+    unmet = [case for case in to_meet() if case not in met] if many >= SURE and differ < ENOUGH else []
+    for name, edition, number, why in unmet:
+        print(" ".join(("never met: %s in edition %s: %d %s" % (name, edition, number, why)).split()))
     print("%d operations, %d differ (%d seconds)" % (sum(met.values()), differ, time.time() - began))
-    return 1 if differ else 0
+    return 1 if differ or unmet else 0
 
 
 if __name__ == "__main__":

@@ -3,7 +3,7 @@
 from itertools import groupby
 
 import reading as r
-from draw import MAX, bad_plan, chance, rnd, word
+from draw import MAX, OTHER_EDITIONS, bad_plan, chance, rnd, word
 
 # ------------------------------------------------------------ bodies with one rule broken
 
@@ -223,22 +223,23 @@ def damaged_body(t, some, body):
 def damaged_table(sheet):
     """Damage to a whole sheet of 2 bytes or more, mostly in its table."""
     changed, way = bytearray(sheet), rnd.randrange(16)
-    entries = min(changed[1], (len(changed) - 2) // 24)
-    entry = 2 + 24 * rnd.randrange(entries) if entries else 0
+    size = r.entry_size(changed[0] if changed[0] in r.EDITIONS else 1)
+    entries = min(changed[1], (len(changed) - 2) // size)
+    entry = 2 + size * rnd.randrange(entries) if entries else 0
     if way == 0:
-        changed[0] = rnd.choice((0, 2, 255))
+        changed[0] = rnd.choice(OTHER_EDITIONS)
     elif way == 1:
         changed[1] = max(0, min(255, rnd.choice((changed[1] - 1, changed[1] + 1, 16, 17, 255))))
     elif way == 2:
         del changed[rnd.randrange(len(changed)):]
     elif way == 3:
-        changed += bytes(rnd.choice((1, 2, 24, 65536 - min(65536, len(changed)), 65537)))
+        changed += bytes(rnd.choice((1, 2, size, 65536 - min(65536, len(changed)), 65537)))
     elif way == 4:
         changed[rnd.randrange(len(changed))] ^= 1 << rnd.randrange(8)
     elif entry and way == 5:
         changed[entry] = rnd.choice((0, 1, 2, 255))
     elif entry and way <= 10:
-        for at in range(entry, 2 + 24 * entries if way <= 8 else entry + 1, 24):
+        for at in range(entry, 2 + size * entries if way <= 8 else entry + 1, size):
             changed[at + 1:at + 16] = bad_plan()
     elif entry and way <= 12:
         n = int.from_bytes(changed[entry + 16:entry + 20], "little")
@@ -247,10 +248,15 @@ def damaged_table(sheet):
         length = int.from_bytes(changed[entry + 20:entry + 24], "little")
         changed[entry + 20:entry + 24] = word(rnd.choice((length - 1, length + 1, length + 65536, MAX)))
     elif entries > 1 and way == 14:                         # a byte moved between bodies, or a sum that wraps
-        first, move = 2 + 24 * rnd.randrange(entries - 1), rnd.choice((1, 1, 2**31))
-        for at, sign in ((first, 1), (first + 24, 1 if move > 1 else -1)):
+        first, move = 2 + size * rnd.randrange(entries - 1), rnd.choice((1, 1, 2**31))
+        for at, sign in ((first, 1), (first + size, 1 if move > 1 else -1)):
             length = int.from_bytes(changed[at + 20:at + 24], "little")
             changed[at + 20:at + 24] = word(length + sign * move)
     else:
         changed = bytearray(rnd.choice((1, 1, 0, 2, rnd.randrange(256))) for _ in range(rnd.randrange(60)))
     return bytes(changed)
+
+
+def other_edition(sheet):
+    """A sheet with byte 0 changed from 1 to 2 or from 2 to 1, where it is either."""
+    return bytes([3 - sheet[0]]) + sheet[1:] if sheet and sheet[0] in r.EDITIONS else sheet

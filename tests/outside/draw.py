@@ -1,11 +1,13 @@
 """Random numbers, lists and plans for the tests from outside, all from one seeded source."""
 
 import random
+from itertools import accumulate
 
 import reading as r
 
 rnd = random.Random()
 MAX = r.MOST_NUMBER
+OTHER_EDITIONS = (0, 3, 4, 127, 128, 255)
 
 
 def chance(percent):
@@ -31,7 +33,20 @@ def number():
     return rnd.choice((rnd.randrange(top), max(0, top - 1 - rnd.randrange(3)), min(MAX, top + rnd.randrange(3))))
 
 
-def numbers(kind, n):
+def apart(some):
+    """As many numbers, each above the one before: moved up where they are not, then down where they pass 2^32 - 1."""
+    raised = list(accumulate(some, lambda before, x: max(before + 1, x)))
+    return [min(x, MAX + 1 - left) for x, left in zip(raised, range(len(raised), 0, -1))]
+
+
+def doubled(some):
+    """The list with one of its numbers, but the first, made equal to the one before."""
+    at = rnd.randrange(1, max(2, len(some)))
+    return some[:at] + some[at - 1:at] + some[at + 1:] if len(some) > 1 else some
+
+
+def numbers(kind, n, edition=1):
+    """A list that rises if the kind asks it, as the edition means it; of edition 2 a few have equal neighbours."""
     shape = rnd.randrange(6)
     if shape == 0:
         found = [rnd.randrange(200) for _ in range(n)]
@@ -49,7 +64,12 @@ def numbers(kind, n):
         found = [base + rnd.randrange(500) for _ in range(n)]
     else:
         found = n * [number()]
-    return sorted(found) if kind == 1 else found
+    if kind == 0:
+        return found
+    found.sort()
+    if edition == 1 or chance(5):
+        return found
+    return doubled(apart(found)) if chance(10) else apart(found)
 
 
 def tree(kind, depth=4, judged=True):

@@ -18,7 +18,7 @@ enum { INPUT_CHANGED = 1, BEFORE_CHANGED = 2, SIGNALLED = 4 };
 
 struct request {                    // then the inputs, each of so many bytes
     uint32_t operation, fill;
-    uint64_t a, b;                  // judge: kind; worst: n; column and place
+    uint64_t a, b;                  // judge: kind; worst: n; write: edition; column and place
     uint32_t work, out;             // work's numbers, the output's bytes
     uint32_t input[INPUTS];         // the plan; kinds, plans, counts and joined; or the sheet
 };
@@ -71,7 +71,7 @@ static uint32_t call(const struct request *q, void **in, uint32_t *work, void *o
     switch (q->operation) {
     case JUDGE: return pelluvion_judge(q->a, in[0], bytes[0]);
     case WORST: return pelluvion_worst(in[0], bytes[0], q->a, answer[0]);
-    case WRITE: return pelluvion_write(in[0], bytes[0], in[1], bytes[1], in[2], bytes[2] / 4, in[3], bytes[3] / 4,
+    case WRITE: return pelluvion_write(q->a, in[0], bytes[0], in[1], bytes[1], in[2], bytes[2] / 4, in[3], bytes[3] / 4,
                                        work, q->work, out, q->out, answer[0]);
     case CHECK: return pelluvion_check(in[0], bytes[0], work, q->work, answer[0]);
     case READ: return pelluvion_read(in[0], bytes[0], q->a, work, q->work, out, q->out / 4, answer[0]);

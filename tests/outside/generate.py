@@ -1,13 +1,13 @@
-"""Random operations for compare.py: plans, orders and sheets, good ones, broken ones and damaged ones, with lengths
-around their exact boundaries.  The reading (../reading.py) writes the good bodies and judges nothing here."""
+"""Random operations for compare.py: plans, orders and sheets of both editions, good ones, broken ones and damaged
+ones, with lengths around their exact boundaries.  The reading (../reading.py) writes the good bodies, judges nothing."""
 
 from collections import namedtuple
 
 import reading as r
-from damage import damaged_body, damaged_table, loosely
-from draw import MAX, bad_plan, chance, count, filled, near, numbers, rnd, text, tree, words
+from damage import damaged_body, damaged_table, loosely, other_edition
+from draw import MAX, OTHER_EDITIONS, bad_plan, chance, count, doubled, filled, near, numbers, rnd, text, tree, words
 
-# inputs: four `bytes`; a, b: kind, n, column, place; work counts numbers, out bytes; fill: what they hold before.
+# inputs: four `bytes`; a, b: kind, n, edition, column, place; work counts numbers, out bytes; fill: what is there before.
 Operation = namedtuple("Operation", "what inputs a b work out fill")
 HUGE = (2**31, 2**32, 2**63, 2**64 - 1, 2**64 // 24 + 1, 2**62 + 1)
 
@@ -18,61 +18,67 @@ def operation(what, inputs, a=0, b=0, work=0, out=0):
 # ------------------------------------------------------------ sheets
 
 
-def assemble(columns):
+def assemble(edition, columns):
     """A sheet as it stands: columns (kind, plan15, count, body)."""
     table = b"".join(bytes([kind]) + plan + r.u32(n) + r.u32(len(body)) for kind, plan, n, body in columns)
-    return bytes([1, len(columns)]) + table + b"".join(column[3] for column in columns)
+    return bytes([edition, len(columns)]) + table + b"".join(column[3] for column in columns)
 
 
-def board_lists():
+def board_lists(edition):
     """Columns of a board that mostly keeps its rules."""
     n = count()
     kinds = [0 if chance(8) else 1, rnd.randrange(2)] + rnd.choice((0, 0, 1)) * [rnd.randrange(2)]
     jobs = sorted(rnd.sample(range(rnd.choice((100, 2**31))), n))
-    if n > 1 and chance(8):
-        at = rnd.randrange(1, n)
-        jobs[at] = jobs[at - 1]
+    if chance(8):
+        jobs = doubled(jobs)
     endings = [rnd.choice((0, 0, 0, 1, 123, 124, 124, 125, 255, 256)) for _ in range(max(0, n - rnd.choice((1, -1)) * chance(8)))]
+    if kinds[1] and edition == 2 and chance(90):            # each ending once
+        endings = rnd.sample(range(257), len(endings))
     if endings and chance(8):
         endings[rnd.randrange(len(endings))] = rnd.choice((257, 512, MAX))
-    contents = [jobs, sorted(endings) if kinds[1] else endings] + [numbers(kind, count()) for kind in kinds[2:]]
+    contents = [jobs, sorted(endings) if kinds[1] else endings]
+    contents += [numbers(kind, count(), edition) for kind in kinds[2:]]
     return [(kind, tree(kind), some) for kind, some in zip(kinds, contents)]
 
 
-def lists():
+def lists(edition):
     """The columns of a sheet: (kind, tree, list).  Few, short and any, a board, or at the limits."""
+    def column(kind, n, depth=4):
+        return kind, tree(kind, depth), numbers(kind, n, edition)
+
     size = rnd.random()
     if size < 0.012:                                        # about 65,536 bytes
-        more = 65536 - 2 - 24 * 15 - 15360 + rnd.choice((0, 0, 1, 1, 24, -1))
+        more = 65536 - 2 - r.entry_size(edition) * 15 - 15360 + rnd.choice((0, 0, 1, 1, 24, -1))
         joined = more // 4 * [MAX] + more % 4 * [128]
         joined += (15360 - len(joined)) * [0]
         rnd.shuffle(joined)
         return [(0, (1,), joined[1024 * i:1024 * i + 1024]) for i in range(15)]
     if size < 0.014:
-        return [(kind, tree(kind, 2), numbers(kind, 1024)) for kind in [rnd.randrange(2) for _ in range(16)]]
+        return [column(rnd.randrange(2), 1024, 2) for _ in range(16)]
     if size < 0.03:
-        kinds = [rnd.randrange(2) for _ in range(rnd.choice((15, 16, 16)))]
-        return [(kind, tree(kind), numbers(kind, rnd.randrange(12))) for kind in kinds]
+        return [column(rnd.randrange(2), rnd.randrange(12)) for _ in range(rnd.choice((15, 16, 16)))]
     if size < 0.06:
-        kind = rnd.randrange(2)
-        return [(kind, tree(kind), numbers(kind, rnd.choice((1024, 1023, 1021, rnd.randrange(500, 1024)))))]
+        return [column(rnd.randrange(2), rnd.choice((1024, 1023, 1021, rnd.randrange(500, 1024))))]
     if size < 0.12:
-        return board_lists()
-    kinds = [rnd.randrange(2) for _ in range(rnd.choice((0, 1, 1, 1, 1, 1, 2, 2, 2, 3, 4)))]
-    return [(kind, tree(kind), numbers(kind, count())) for kind in kinds]
+        return board_lists(edition)
+    return [column(rnd.randrange(2), count()) for _ in range(rnd.choice((0, 1, 1, 1, 1, 1, 2, 2, 2, 3, 4)))]
 
 
 def sheet():
-    columns, way = lists(), rnd.randrange(100)
+    edition, way = rnd.choice(r.EDITIONS), rnd.randrange(100)
+    columns = lists(edition)
     bodies = [r.write_plan(t, some) for _, t, some in columns]
     if columns and way < 45:
         for at in rnd.sample(range(len(columns)), min(len(columns), rnd.choice((1, 1, 1, 2)))):
             bodies[at] = damaged_body(*columns[at][1:], bodies[at])
-    made = assemble([(kind, filled(text(t)), len(some), body) for (kind, t, some), body in zip(columns, bodies)])
+    made = assemble(edition, [(kind, filled(text(t)), len(some), body)
+                              for (kind, t, some), body in zip(columns, bodies)])
     counts = [len(some) for _, _, some in columns]
     if way >= 75:
         for _ in range(rnd.choice((1, 1, 2))):
             made = damaged_table(made) if len(made) > 1 else made
+    if chance(10):
+        made = other_edition(made)
     return made, counts, way >= 75
 
 # ------------------------------------------------------------ operations
@@ -91,8 +97,11 @@ def place_of(n):
 
 
 def on_a_board():
-    columns = board_lists()[:1 if chance(3) else 3]
-    made = assemble([(kind, filled(text(t)), len(some), r.write_plan(t, some)) for kind, t, some in columns])
+    edition = rnd.choice(r.EDITIONS)
+    columns = board_lists(edition)[:1 if chance(3) else 3]
+    made = assemble(edition, [(kind, filled(text(t)), len(some), r.write_plan(t, some)) for kind, t, some in columns])
+    if chance(20):
+        made = rnd.choice((other_edition, damaged_table))(made)
     yield operation("board", [made], work=near(8 * max(len(some) for _, _, some in columns)))
 
 
@@ -114,19 +123,37 @@ def on_a_sheet():
 
 def on_a_body():
     """One column of a small plan with a rule broken, and all the room it needs."""
-    kind = rnd.randrange(2)
+    kind, edition = rnd.randrange(2), rnd.choice(r.EDITIONS)
     t = tree(kind, rnd.choice((1, 2, 3, 3, 3)))
-    some = numbers(kind, rnd.choice((0, 1, 5, rnd.randint(1, 24), rnd.randint(1, 24))))
+    some = numbers(kind, rnd.choice((0, 1, 5, rnd.randint(1, 24), rnd.randint(1, 24))), edition)
     if t[0] == r.G8IU and chance(50):
         some = [x % 2**rnd.choice((8, 8, 16)) for x in some]
         kind = 0
     if t[0] == r.FOURWISE and chance(50):                   # more than one batch
-        some = numbers(kind, rnd.randint(16, 50))
-    made = assemble([(kind, filled(text(t)), len(some), loosely(t, some))])
+        some = numbers(kind, rnd.randint(16, 50), edition)
+    made = assemble(edition, [(kind, filled(text(t)), len(some), loosely(t, some))])
     yield operation("check", [made], work=8 * len(some))
     yield operation("read", [made], 0, work=7 * len(some), out=4 * len(some))
     yield operation("lookup", [made], 0, max(0, len(some) - 1))
     yield operation("lookup", [made], 0, rnd.randint(0, len(some)))
+
+
+def on_editions():
+    """A list of kind 1 that rises, has equal neighbours or falls: written, and read as it stands, in each edition."""
+    some, way = numbers(1, count(), 2), rnd.randrange(3)
+    if way == 0:
+        some = doubled(some)
+    elif way == 1:
+        some = some[1:] + some[:1]
+    t, n = tree(0 if way == 1 else 1), len(some)            # of a list that falls there are no differences
+    column = 1, filled(text(t)), n, r.write_plan(t, some)
+    for edition in r.EDITIONS + (rnd.choice(OTHER_EDITIONS),):
+        made = assemble(edition, [column])
+        yield operation("write", [b"\1", column[1], words([n]), words(some)], edition, work=7 * n, out=len(made))
+        yield operation("check", [made], work=8 * n)
+        yield operation("read", [made], 0, work=7 * n, out=4 * n)
+        yield operation("lookup", [made], 0, place_of(n))
+        yield operation("board", [assemble(edition, [column, (0, filled(b"\1"), n, bytes(n))])], work=8 * n)
 
 
 def broken(orders):
@@ -141,7 +168,7 @@ def broken(orders):
         plan = bad_plan()
     elif way <= 5:
         kind = 1 if plan == bytes(15) or r.judge(1, plan) == 0 else kind
-        some = rnd.choice((some[::-1], some[-1:] + some[:-1], some[1:] + some[:1]))
+        some = rnd.choice((some[::-1], some[-1:] + some[:-1], some[1:] + some[:1], doubled(sorted(some))))
     elif chance(10):
         n, some = 1025, 1025 * [7]
     orders[at] = kind, plan, n, some
@@ -149,11 +176,11 @@ def broken(orders):
 
 def writing():
     """Orders, good and broken, with outputs around the size of the sheet that the good ones make."""
-    orders = [(kind, bytes(15) if chance(15) else filled(text(t)), len(some), some) for kind, t, some in lists()]
-    try:
-        size = len(r.write([order[:3] for order in orders], [x for order in orders for x in order[3]], 8192, 65536))
-    except r.Refused:
-        size = 65536
+    edition, size = rnd.choice(r.EDITIONS), 2
+    orders = [(kind, bytes(15) if chance(15) else filled(text(t)), len(some), some) for kind, t, some in lists(edition)]
+    for kind, plan, _, some in orders:
+        used = r.parse_plan(plan if any(plan) else r.DEFAULT[kind])
+        size = min(65536, size + r.entry_size(edition) + len(r.write_plan(used, some)))
     for _ in range(4 if size < 4000 else 2):
         some = list(orders)
         if chance(2):
@@ -172,7 +199,8 @@ def writing():
         if chance(3):
             joined = rnd.choice((joined[:-1], joined + [0]))
         largest = max((len(order[3]) for order in orders), default=0)
-        yield operation("write", [kinds, plans, words(counts), words(joined)], work=near(7 * largest),
+        asked = rnd.choice(OTHER_EDITIONS) if chance(3) else 3 - edition if chance(15) else edition
+        yield operation("write", [kinds, plans, words(counts), words(joined)], asked, work=near(7 * largest),
                         out=near(size) if size < 60000 or chance(50) else 70000)
 
 
@@ -187,7 +215,7 @@ def judging():
         yield operation("worst", [plan], n)
 
 
-SCENES = 2 * (on_a_sheet,) + 3 * (on_a_body,) + 3 * (on_a_board,) + (writing, judging)
+SCENES = 4 * (on_a_sheet,) + 6 * (on_a_body,) + 6 * (on_a_board,) + 2 * (writing, judging) + (on_editions,)
 
 
 def operations(seed, many):

@@ -1,5 +1,5 @@
-"""Bodies read and written by others: Stream VByte by Debian's libstreamvbyte, both ways (interop.c), and VByte as
-Protocol Buffers' packed varints, decoded and encoded here by the public encoding rules.
+"""Bodies read and written by others: Stream VByte by Debian's libstreamvbyte, both ways in both editions (interop.c),
+and VByte as Protocol Buffers' packed varints, decoded and encoded here by the public encoding rules.
 
     python3 interop.py ARCHIVE [LISTS [SEED]]
 

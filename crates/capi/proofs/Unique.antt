@@ -28,12 +28,12 @@ pub one-worst : (plan : List ℕ) (n r r′ size size′ : ℕ)
     → (r ≡ r′) × (size ≡ size′)
 one-worst plan n = one-tells (worstSize plan n)
 
-pub one-write : (kinds plans counts numbers : List ℕ) (work r r′ size size′ : ℕ) (out out₁ out₂ : List ℕ)
-    → TellsList (writeApart kinds plans counts numbers work (length out)) r size out out₁
-    → TellsList (writeApart kinds plans counts numbers work (length out)) r′ size′ out out₂
+pub one-write : (edition : ℕ) (kinds plans counts numbers : List ℕ) (work r r′ size size′ : ℕ) (out out₁ out₂ : List ℕ)
+    → TellsList (writeApart edition kinds plans counts numbers work (length out)) r size out out₁
+    → TellsList (writeApart edition kinds plans counts numbers work (length out)) r′ size′ out out₂
     → (r ≡ r′) × (size ≡ size′) × (out₁ ≡ out₂)
-one-write kinds plans counts numbers work r r′ size size′ out =
-    one-fills (writeApart kinds plans counts numbers work (length out)) r r′ size size′ out
+one-write edition kinds plans counts numbers work r r′ size size′ out =
+    one-fills (writeApart edition kinds plans counts numbers work (length out)) r r′ size size′ out
 
 pub one-check : (sheet : List ℕ) (work r r′ k k′ : ℕ)
     → Blames (check sheet work) r k

@@ -57,9 +57,10 @@ pub extern "C" fn pelluvion_worst(plan: &[u8], n: usize, size: &mut usize) -> u3
     }
 }
 
-// Writes a sheet of orders taken apart, at the start of the output.
+// Writes a sheet of an edition, by orders taken apart, at the start of the output.
 #[no_mangle]
 pub extern "C" fn pelluvion_write(
+    edition: u8,
     kinds: &[u8],
     plans: &[u8],
     counts: &[u32],
@@ -68,10 +69,10 @@ pub extern "C" fn pelluvion_write(
     out: &mut [u8],
     size: &mut usize,
 ) -> u32
-    ensures { λ r. ⌜ TellsList (writeApart (now (kinds .entry)) (now (plans .entry)) (now (counts .entry)) (now (joined .entry))
+    ensures { λ r. ⌜ TellsList (writeApart edition (now (kinds .entry)) (now (plans .entry)) (now (counts .entry)) (now (joined .entry))
         (length (now (work .entry))) (length (now (out .entry)))) r (now (size .exit)) (now (out .entry)) (now (out .exit)) ⌝ }
 {
-    let written = write(kinds, plans, counts, joined, work, out);
+    let written = write(edition, kinds, plans, counts, joined, work, out);
     match written {
         Sized::Bytes(bytes) => {
             *size = bytes;

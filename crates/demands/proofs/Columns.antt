@@ -21,21 +21,21 @@ pub record Fits (l : Listed) : Type 0 where
 abbrev pub AllFit : List Listed → Type 0
 AllFit ls = (k : ℕ) → k < length ls → Fits (getD ls k blankListed)
 
-entered : (l : Listed) → Fits l → Entered (columnFor l)
-entered l fit = record { sized = record { planned = fit .planned; counted = fit .few; short = fit .short }; whole = refl }
+entered : (edition : ℕ) (l : Listed) → Fits l → Entered edition (columnFor edition l)
+entered edition l fit = record { made = refl; sized = record { planned = fit .planned; counted = fit .few; short = fit .short }; whole = refl }
 
-all-entered : (ls : List Listed) → AllFit ls → AllEntered (map columnFor ls)
-all-entered [] fit k h = absurd (omega arith)
-all-entered (l ∷ ls) fit zero h = entered l (fit 0 (omega arith))
-all-entered (l ∷ ls) fit (suc k) h = all-entered ls (λ (j : ℕ) (i : j < length ls). fit (suc j) (omega arith)) k (omega arith)
+all-entered : (edition : ℕ) (ls : List Listed) → AllFit ls → AllEntered edition (map (columnFor edition) ls)
+all-entered edition [] fit k h = absurd (omega arith)
+all-entered edition (l ∷ ls) fit zero h = entered edition l (fit 0 (omega arith))
+all-entered edition (l ∷ ls) fit (suc k) h = all-entered edition ls (λ (j : ℕ) (i : j < length ls). fit (suc j) (omega arith)) k (omega arith)
 
-module _ (ls : List Listed) (fit : AllFit ls) where
-  pub written-columns : columnsOf (sheetBytes ls) ≡ map columnFor ls
+module _ (edition : ℕ) (ls : List Listed) (fit : AllFit ls) where
+  pub written-columns : columnsOf (sheetBytes edition ls) ≡ map (columnFor edition) ls
   unfolding sheetBytes
-  written-columns = columns-forth 1 (map columnFor ls) (all-entered ls fit)
+  written-columns = columns-forth edition (map (columnFor edition) ls) (all-entered edition ls fit)
 
-  pub written-size : length (sheetBytes ls) ≡ tableSize (sheetBytes ls) + length (joined bodyOf ls)
+  pub written-size : length (sheetBytes edition ls) ≡ tableSize (sheetBytes edition ls) + length (joined bodyOf ls)
   unfolding sheetBytes
   written-size =
-      assembled-long 1 (map columnFor ls) (all-entered ls fit)
-      ∙ ap (λ (l : List ℕ). tableSize (sheetBytes ls) + length l) (joined-map (λ (c : Column). c .body) columnFor ls)
+      assembled-long edition (map (columnFor edition) ls) (all-entered edition ls fit)
+      ∙ ap (λ (l : List ℕ). tableSize (sheetBytes edition ls) + length l) (joined-map (λ (c : Column). c .body) (columnFor edition) ls)

@@ -48,15 +48,15 @@ module _ {M : Type 1} (𝓤 : URA M) (H : Heap 𝓤) (A : Atoms 𝓤) (mem : Mem
   pub sizing : worst-size.spec 𝓤 H A mem run ≡ ensuring worst-size.ended (λ κs a r s. Sizes (now (a .0)) (a .1 .0) r)
   sizing = refl
 
-  -- orders::write(orders, joined, work, out)
+  -- orders::write(edition, orders, joined, work, out)
   pub writing : orders.spec 𝓤 H A mem run ≡ ensuring orders.ended (λ κs a r s.
-      Writes (map orderSays (now (a .0))) (now (a .1 .0)) (now (a .1 .1 .0)) (now (a .1 .1 .1 .0)) (r, now (s .1 .1 .1 .0)))
+      Writes (a .0) (map orderSays (now (a .1 .0))) (now (a .1 .1 .0)) (now (a .1 .1 .1 .0)) (now (a .1 .1 .1 .1 .0)) (r, now (s .1 .1 .1 .1 .0)))
   writing = refl
 
-  -- writer::write(kinds, plans, counts, joined, work, out)
+  -- writer::write(edition, kinds, plans, counts, joined, work, out)
   pub writing-apart : writer.spec 𝓤 H A mem run ≡ ensuring writer.ended (λ κs a r s.
-      WritesApart (now (a .0)) (now (a .1 .0)) (now (a .1 .1 .0)) (now (a .1 .1 .1 .0)) (now (a .1 .1 .1 .1 .0)) (now (a .1 .1 .1 .1 .1 .0))
-      (r, now (s .1 .1 .1 .1 .1 .0)))
+      WritesApart (a .0) (now (a .1 .0)) (now (a .1 .1 .0)) (now (a .1 .1 .1 .0)) (now (a .1 .1 .1 .1 .0)) (now (a .1 .1 .1 .1 .1 .0))
+      (now (a .1 .1 .1 .1 .1 .1 .0)) (r, now (s .1 .1 .1 .1 .1 .1 .0)))
   writing-apart = refl
 
   -- check(sheet, work)

@@ -12,7 +12,7 @@ use Rattle.meaning.specs.Operations.{column, numbersAt, noTally}
 use Rattle.meaning.specs.Operations.{writeSheet, writeApart, check, readSheet, lookSheet, fetch, openReader, countBoard}
 use Rattle.meaning.specs.Plan.{judge, worstSize}
 use Rattle.meaning.specs.Says.{judgedSays, sizedSays, readingSays, foundSays, checkedSays, countedSays}
-use Rattle.meaning.specs.Sheet.{Column, columnAt, readColumn}
+use Rattle.meaning.specs.Sheet.{Column, editionOf, columnAt, readColumn}
 use Rattle.meaning.specs.declared.Reading.{Reading}
 use Rattle.meaning.specs.declared.Counted.{Counted}
 use Rattle.meaning.specs.declared.Counted.the-variants as counted
@@ -64,12 +64,13 @@ demand-1 =
     record {
       judging = λ kind plan. by-answer (3 ∷ 4 ∷ 11 ∷ []) refl judgedSays (judge kind plan) (judge-refusals kind plan) (one-judge kind plan);
       sizing = λ plan n. by-answer (3 ∷ 11 ∷ []) refl sizedSays (worstSize plan n) (worst-refusals plan n) (one-worst-size plan n);
-      writing = λ orders joined work o.
-          let m = writeSheet orders joined (length work) (length o) in
-          by-output (3 ∷ 4 ∷ 7 ∷ 8 ∷ 10 ∷ 11 ∷ []) refl sizedSays m o (write-refusals orders joined (length work) (length o)) (λ r s. one-sized r s (amount m));
-      writingApart = λ kinds plans counts joined work o.
-          let m = writeApart kinds plans counts joined (length work) (length o) in
-          by-output (3 ∷ 4 ∷ 7 ∷ 8 ∷ 10 ∷ 11 ∷ []) refl sizedSays m o (apart-refusals kinds plans counts joined (length work) (length o))
+      writing = λ edition orders joined work o.
+          let m = writeSheet edition orders joined (length work) (length o) in
+          by-output (3 ∷ 4 ∷ 7 ∷ 8 ∷ 10 ∷ 11 ∷ []) refl sizedSays m o (write-refusals edition orders joined (length work) (length o))
+          (λ r s. one-sized r s (amount m));
+      writingApart = λ edition kinds plans counts joined work o.
+          let m = writeApart edition kinds plans counts joined (length work) (length o) in
+          by-output (3 ∷ 4 ∷ 7 ∷ 8 ∷ 10 ∷ 11 ∷ []) refl sizedSays m o (apart-refusals edition kinds plans counts joined (length work) (length o))
           (λ r s. one-sized r s (amount m));
       checking = λ sheet work.
           by-verdict (1 ∷ 2 ∷ 3 ∷ 4 ∷ 8 ∷ 9 ∷ []) refl (Checks sheet work) (λ r. refusal (checkedSays r)) (check sheet (length work)) (λ r. Unit {0})
@@ -119,12 +120,12 @@ pub demand-2 : Demand2
 unfolding numbersAt
 demand-2 =
     record {
-      writing = λ orders joined work o o′ n t.
-          let (bytes, e, many, leaves) = fills-given (writeSheet orders joined (length work) (length o)) n o o′ (t .0) (t .1) in
-          let is = accepted orders joined (length work) (length o) bytes e .is in
+      writing = λ edition orders joined work o o′ n t.
+          let (bytes, e, many, leaves) = fills-given (writeSheet edition orders joined (length work) (length o)) n o o′ (t .0) (t .1) in
+          let is = accepted edition orders joined (length work) (length o) bytes e .is in
           (many ∙ ap length is, leaves ∙ ap (λ (l : List ℕ). l ++ drop n o) is);
-      apart = λ kinds plans counts joined work o a planned counted t.
-          let e = apart-is kinds plans counts joined (length work) (length o) planned counted in
+      apart = λ edition kinds plans counts joined work o a planned counted t.
+          let e = apart-is edition kinds plans counts joined (length work) (length o) planned counted in
           (t .0 ∙ ap amount e, t .1 ∙ ap (λ (m : Answer (List ℕ)). filled m o) e);
       reading = λ sheet k work o o′ n t.
           let (xs, e, many, leaves) = fills-given (readSheet sheet k (length work) (length o)) n o o′ (t .0) (t .1) in
@@ -132,10 +133,10 @@ demand-2 =
           let is : list (readColumn (columnAt sheet k)) ≡ xs = ap list read in
           (read ∙ ap (λ (l : List ℕ). given l) (sym is), many ∙ ap length (sym is), leaves ∙ ap (λ (l : List ℕ). l ++ drop n o) (sym is));
       again = λ sheet p work o enough fits a.
-          filled-with (writeSheet (ownOrders sheet) (ownNumbers sheet) (length work) (length o)) sheet o a
+          filled-with (writeSheet (editionOf sheet) (ownOrders sheet) (ownNumbers sheet) (length work) (length o)) sheet o a
           (same-sheet sheet (p .bytes) (length (p .passes .0)) (sym (p .passes .1)) (length work) (length o) enough fits);
       againApart = λ sheet p work o enough fits a.
-          filled-with (writeApart (ownKinds sheet) (ownPlans sheet) (ownCounts sheet) (ownNumbers sheet) (length work) (length o)) sheet o a
+          filled-with (writeApart (editionOf sheet) (ownKinds sheet) (ownPlans sheet) (ownCounts sheet) (ownNumbers sheet) (length work) (length o)) sheet o a
           (same-apart sheet (p .bytes) (length (p .passes .0)) (sym (p .passes .1)) (length work) (length o) enough fits);
     }
 

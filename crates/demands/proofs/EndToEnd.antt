@@ -1,14 +1,15 @@
 -- Demand 3 over the contracts alone: a sheet that passes is looked up, read and stepped through, and lists within the limits come back from end to end.
 -- Assumes nothing.
 use Prim.Native.Nat.{ℕ, zero, suc, _*_, _≤_, _<_}
-use mathlib.Core.Path.{_≡_, sym, ap, _∙_, subst}
+use mathlib.Core.Path.{_≡_, refl, sym, ap, _∙_, subst}
+use mathlib.Core.Bool.{true}
 use mathlib.Core.List.{List, _++_}
 use native.Mathlib.Omega.{arith}
 use lib.ListN.{length, getD, take, drop, length-map}
 use Rattle.meaning.specs.Answer.{Answer, given, number, list, amount, filled, passed}
 use Rattle.meaning.specs.Operations.{Order, listedBy, writeSheet, check, openReader, callOver, call, numbersAt}
 use Rattle.meaning.specs.Places.{Below}
-use Rattle.meaning.specs.Sheet.{Listed, columnFor, assemble, sheetBytes, columnsOf, columnAt, readColumn, largestCount}
+use Rattle.meaning.specs.Sheet.{ofKind, Listed, columnFor, assemble, sheetBytes, editionOf, columnsOf, columnAt, readColumn, largestCount}
 use Rattle.meaning.specs.declared.Sized.{Sized}
 use Rattle.meaning.specs.declared.Sized.the-variants.{Bytes}
 use Rattle.meaning.specs.declared.Reading.{Reading}
@@ -22,7 +23,7 @@ use Rattle.table.proofs.Columns.{column-count}
 use Rattle.writer.specs.Orders.{blankListed}
 use Rattle.writer.proofs.Columns.{listed-count}
 use Rattle.sheet.proofs.Checks.{check-passed}
-use Rattle.sheet.proofs.Passing.{numbers-read, numbers-many, reads-all, looks-all}
+use Rattle.sheet.proofs.Passing.{numbers-read, numbers-many, numbers-kind, reads-all, looks-all}
 use Rattle.sheet.proofs.Unique.{one-check, one-read, one-lookup}
 use Rattle.reader.specs.Steps.{opened, after, standing, moved}
 use Rattle.reader.specs.declared.Reader.{Reader}
@@ -93,52 +94,58 @@ module _ (sheet : List ℕ) (bytes : Below 256 sheet) (checkWork : ℕ) (passes 
   holds-it : Holds sheet k (numbersAt sheet k)
   holds-it = record { looks = looks; reads = reads; opens = opens; calls = calls }
 
-  pub column-holds : (readColumn (columnAt sheet k) ≡ given (numbersAt sheet k))
-      × (length (numbersAt sheet k) ≡ columnAt sheet k .count) × Holds sheet k (numbersAt sheet k)
-  column-holds = (numbers-read sheet bytes checkWork passes k there, many, holds-it)
+  pub column-holds : (readColumn (columnAt sheet k) ≡ given (numbersAt sheet k)) × (length (numbersAt sheet k) ≡ columnAt sheet k .count)
+      × (ofKind (editionOf sheet) (columnAt sheet k .kind) (numbersAt sheet k) ≡ true) × Holds sheet k (numbersAt sheet k)
+  column-holds = (numbers-read sheet bytes checkWork passes k there, many, numbers-kind sheet bytes checkWork passes k there, holds-it)
 
 -- ---- lists within the limits
-module _ (orders : List Order) (joined work o : List ℕ) (w : Within orders joined work o) where
+module _ (edition : ℕ) (orders : List Order) (joined work o : List ℕ) (w : Within edition orders joined work o) where
   abbrev ls : List Listed
   ls = listedBy orders joined
 
   abbrev sheet : List ℕ
-  sheet = sheetBytes ls
+  sheet = sheetBytes edition ls
 
-  writable : AllWritable ls
-  writable = all-writable orders joined (w .numbers) (w .limits) (w .plans) (w .kinds)
+  writable : AllWritable edition ls
+  writable = all-writable edition orders joined (w .numbers) (w .limits) (w .plans) (w .kinds)
 
-  stuck : NeverStuck orders joined (length work) (length o)
-  stuck = never-stuck orders joined (length work) (length o) (w .numbers) (w .limits) (w .plans) (w .kinds) (w .enough) (w .short) (w .fits)
+  stuck : NeverStuck edition orders joined (length work) (length o)
+  stuck =
+      never-stuck edition orders joined (length work) (length o) (w .asked) (w .numbers) (w .limits) (w .plans) (w .kinds) (w .enough) (w .short) (w .fits)
 
   bytes : Below 256 sheet
-  bytes = written-bytes ls writable (few-columns orders joined (w .numbers) (w .limits) (w .plans) (w .kinds))
+  bytes = written-bytes edition ls writable (w .asked) (few-columns edition orders joined (w .numbers) (w .limits) (w .plans) (w .kinds))
 
   passes : (checkWork : ℕ) → 8 * largestCount sheet ≤ checkWork → check sheet checkWork ≡ passed
-  passes checkWork h = stuck .passes checkWork (omega (arith, written-largest ls writable))
+  passes checkWork h = stuck .passes checkWork (omega (arith, written-largest edition ls writable))
 
   many-columns : length (columnsOf sheet) ≡ length orders
   unfolding sheetBytes assemble
-  many-columns = column-count sheet ∙ length-map ls columnFor ∙ listed-count orders joined
+  many-columns = column-count sheet ∙ length-map ls (columnFor edition) ∙ listed-count orders joined
 
   holds : (k : ℕ) → k < length orders → Holds sheet k (getD ls k blankListed .numbers)
   holds k h =
-      subst (Holds sheet k) (list-back ls writable k (omega (arith, listed-count orders joined)))
+      subst (Holds sheet k) (list-back edition ls writable k (omega (arith, listed-count orders joined)))
       (holds-it sheet bytes (8 * largestCount sheet) (passes (8 * largestCount sheet) (omega arith)) k (omega (arith, many-columns)))
 
-  module _ (a : Sized × List ℕ) (t : Writes orders joined work o a) where
+  module _ (a : Sized × List ℕ) (t : Writes edition orders joined work o a) where
     answered : a ≡ (Bytes (length sheet), sheet ++ drop (length sheet) o)
-    answered = filled-with (writeSheet orders joined (length work) (length o)) sheet o a (stuck .written) t
+    answered = filled-with (writeSheet edition orders joined (length work) (length o)) sheet o a (stuck .written) t
 
     is : sheet ≡ take (length sheet) (a .1)
     is = sym (ap (λ (b : Sized × List ℕ). take (length sheet) (b .1)) answered ∙ first-filled o sheet)
 
-    pub carries : Carries orders joined a
+    first-byte : editionOf sheet ≡ edition
+    unfolding sheetBytes assemble
+    first-byte = refl
+
+    pub carries : Carries edition orders joined a
     carries =
         record {
           size = length sheet;
           written = ap (λ (b : Sized × List ℕ). b .0) answered;
           most = stuck .within;
+          made = sym (ap editionOf is) ∙ first-byte;
           bytes = subst (Below 256) is bytes;
           passes = subst (λ (s : List ℕ). (work : List ℕ) → 8 * largestCount s ≤ length work → (r : Checked) → Checks s work r → r ≡ Passed) is
               (λ v h r c. one-check sheet (length v) r Passed c (sym (passes (length v) h)));

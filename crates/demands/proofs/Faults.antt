@@ -114,4 +114,4 @@ pub column-faulty : (c : Column) → Faulty (readColumn c)
 unfolding readColumn
 column-faulty c =
     let p = planOf (c .plan) in
-    bind-faulty (read p (c .body) (c .count)) _ (read-faulty p (c .body) (c .count)) (λ xs. need-faulty (ofKind (c .kind) xs) _ tt)
+    bind-faulty (read p (c .body) (c .count)) _ (read-faulty p (c .body) (c .count)) (λ xs. need-faulty (ofKind (c .edition) (c .kind) xs) _ tt)

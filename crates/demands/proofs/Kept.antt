@@ -1,6 +1,6 @@
 -- What each column of a sheet that passes the check keeps: its list, written by its plan, is its body. Assumes nothing.
 use Prim.Native.Nat.{ℕ, _≤_, _<_}
-use mathlib.Core.Path.{_≡_, refl, sym, _∙_, subst}
+use mathlib.Core.Path.{_≡_, refl, sym}
 use mathlib.Core.Bool.{Bool, true, false}
 use mathlib.Core.List.{List, [], _∷_}
 use native.Mathlib.Omega.{arith}
@@ -9,14 +9,12 @@ use lib.ListN.{length, getD}
 use borrow.Author.Tests.{eqb-true}
 use Rattle.meaning.specs.Answer.{given, passed}
 use Rattle.meaning.specs.Codes.{isCode}
-use Rattle.meaning.specs.Limits.{mostNumbers, planBytes, rising, fault}
+use Rattle.meaning.specs.Limits.{mostNumbers, planBytes, rising}
 use Rattle.meaning.specs.Lists.{all}
 use Rattle.meaning.specs.Operations.{check, numbersAt}
 use Rattle.meaning.specs.Places.{Below}
 use Rattle.meaning.specs.Plan.{planOf, planAt, good, wellFormed, judgePlan, planUsed}
-use Rattle.meaning.specs.Sheet.{ofKind, bodyOf, Column, columnsOf, columnAt, readColumn, columnCount}
-use Rattle.meaning.specs.Stages.{read}
-use Rattle.meaning.proofs.Answers.{bind-given, need-given}
+use Rattle.meaning.specs.Sheet.{ofKind, bodyOf, Column, columnsOf, columnAt, columnCount}
 use Rattle.meaning.proofs.Tests.{both-true}
 use Rattle.codes.proofs.Numbered.{laws}
 use Rattle.stages.proofs.Back.{back}
@@ -26,6 +24,7 @@ use Rattle.table.proofs.Sounds.{sound-column}
 use Rattle.writer.proofs.Entries.{used-given}
 use Rattle.sheet.proofs.Checks.{check-passed}
 use Rattle.sheet.proofs.Passing.{numbers-read, body-bytes}
+use Rattle.sheet.proofs.ReadColumns.{column-given}
 use Rattle.demands.specs.Own.{numbersFor, listedFor}
 
 pub record Kept (c : Column) : Type 0 where
@@ -34,7 +33,7 @@ pub record Kept (c : Column) : Type 0 where
   pub judged : judgePlan (c .kind) (c .plan) ≡ given tt
   pub planned : length (c .plan) ≡ planBytes
   pub used : planUsed (c .kind) (c .plan) ≡ c .plan
-  pub risen : ofKind (c .kind) (numbersFor c) ≡ true
+  pub risen : ofKind (c .edition) (c .kind) (numbersFor c) ≡ true
   pub many : length (numbersFor c) ≡ c .count
   pub body : bodyOf (listedFor c) ≡ c .body
   pub long : length (c .body) ≡ c .size
@@ -72,21 +71,19 @@ module _ (sheet : List ℕ) (bytes : Below 256 sheet) (work : ℕ) (passes : che
     c = columnAt sheet k
 
     kept : Kept c
-    unfolding readColumn numbersAt
+    unfolding numbersAt
     kept =
         let holds = sound-column sheet (check-passed sheet work passes .ready .sounds) k there in
         let (p, u) = formed-used (c .kind) (c .plan) (holds .formed) in
-        let (ys, er, ek) = bind-given (read (planOf (c .plan)) (c .body) (c .count)) _ (numbersFor c) (numbers-read sheet bytes work passes k there) in
-        let (o, g) = need-given (ofKind (c .kind) ys) fault (given ys) (numbersFor c) ek in
-        let same : ys ≡ numbersFor c = cc in
-        let (w, m, s) = back laws (planOf (c .plan)) (c .body) (c .count) (numbersFor c) (body-bytes sheet bytes work passes k there) (er ∙ g) in
+        let (r, o) = column-given c (numbersFor c) (numbers-read sheet bytes work passes k there) in
+        let (w, m, s) = back laws (planOf (c .plan)) (c .body) (c .count) (numbersFor c) (body-bytes sheet bytes work passes k there) r in
         record {
           kind = holds .kind;
           few = holds .count;
           judged = holds .judged;
           planned = p;
           used = u;
-          risen = subst (λ (xs : List ℕ). ofKind (c .kind) xs ≡ true) same o;
+          risen = o;
           many = m;
           body = w;
           long = holds .long;

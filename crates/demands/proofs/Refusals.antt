@@ -14,7 +14,7 @@ use Rattle.meaning.specs.Lists.{all, largest}
 use Rattle.meaning.specs.Operations.{Order, listedBy, ordersHold, ordersOf, column, numbersAt, boardHolds, boardVerdict, tallied}
 use Rattle.meaning.specs.Operations.{writeListed, writeSheet, writeApart, check, readSheet, lookSheet, fetch, openReader, countBoard}
 use Rattle.meaning.specs.Plan.{planOf, wellFormed, passes, judgePlan, judge, worstSize}
-use Rattle.meaning.specs.Sheet.{Listed, sheetBytes, Column, columnsOf, isSheet, tableHolds, sound, readColumn, checkColumn, largestCount}
+use Rattle.meaning.specs.Sheet.{isEdition, Listed, sheetBytes, Column, columnsOf, isSheet, tableHolds, sound, readColumn, checkColumn, largestCount}
 use Rattle.meaning.specs.Stages.{look}
 use Rattle.meaning.proofs.Answers.{Faulty}
 use Rattle.meaning.proofs.Tests.{both-true, by-test}
@@ -93,21 +93,23 @@ worst-refusals plan n = by-need _ (wellFormed plan) badPlan _ refl (by-need _ (l
 abbrev writing : List ℕ
 writing = 3 ∷ 4 ∷ 7 ∷ 8 ∷ 10 ∷ 11 ∷ []
 
-pub write-refusals : (orders : List Order) (numbers : List ℕ) (work room : ℕ) → RefusesBy (3 ∷ 4 ∷ 7 ∷ 8 ∷ 10 ∷ 11 ∷ []) (writeSheet orders numbers work room)
+pub write-refusals : (edition : ℕ) (orders : List Order) (numbers : List ℕ) (work room : ℕ)
+    → RefusesBy (3 ∷ 4 ∷ 7 ∷ 8 ∷ 10 ∷ 11 ∷ []) (writeSheet edition orders numbers work room)
 unfolding writeSheet writeListed among
-write-refusals orders numbers work room =
+write-refusals edition orders numbers work room =
     let ls = listedBy orders numbers in
-    by-need writing (ordersHold orders numbers) badOrders _ refl
+    by-need writing (isEdition edition) badOrders _ refl
+    (by-need writing (ordersHold orders numbers) badOrders _ refl
     (by-after writing (inTurn listJudged 0 ls) _ (by-turn writing listJudged (λ l. plan-by writing refl refl (l .kind) (l .plan)) 0 ls)
-    (by-need writing (all listRises ls) fallen _ refl
+    (by-need writing (all (listRises edition) ls) fallen _ refl
     (by-need writing (leb (7 * largest (map (λ (c : Listed). length (c .numbers)) ls)) work) shortWork _ refl
-    (by-need writing (leb (length (sheetBytes ls)) mostBytes && leb (length (sheetBytes ls)) room) noRoom _ refl tt))))
+    (by-need writing (leb (length (sheetBytes edition ls)) mostBytes && leb (length (sheetBytes edition ls)) room) noRoom _ refl tt)))))
 
-pub apart-refusals : (kinds plans counts numbers : List ℕ) (work room : ℕ)
-    → RefusesBy (3 ∷ 4 ∷ 7 ∷ 8 ∷ 10 ∷ 11 ∷ []) (writeApart kinds plans counts numbers work room)
+pub apart-refusals : (edition : ℕ) (kinds plans counts numbers : List ℕ) (work room : ℕ)
+    → RefusesBy (3 ∷ 4 ∷ 7 ∷ 8 ∷ 10 ∷ 11 ∷ []) (writeApart edition kinds plans counts numbers work room)
 unfolding writeApart among
-apart-refusals kinds plans counts numbers work room =
-    by-need writing (longTogether kinds plans counts) badOrders _ refl (write-refusals (ordersOf kinds plans counts) numbers work room)
+apart-refusals edition kinds plans counts numbers work room =
+    by-need writing (longTogether kinds plans counts) badOrders _ refl (write-refusals edition (ordersOf kinds plans counts) numbers work room)
 
 pub check-refusals : (sheet : List ℕ) (work : ℕ) → BlamesBy (1 ∷ 2 ∷ 3 ∷ 4 ∷ 8 ∷ 9 ∷ []) (check sheet work)
 unfolding among

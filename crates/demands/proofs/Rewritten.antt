@@ -1,11 +1,11 @@
--- Demand 2: a sheet that passes the check, written again from its own lists, kinds and plans, is byte for byte the same. Assumes nothing.
-use Prim.Native.Nat.{ℕ, suc, _+_, _*_, _≤_}
-use mathlib.Core.Path.{_≡_, refl, sym, ap, ap₂, _∙_}
+-- Demand 2: a sheet that passes the check, written again in its own edition from its own lists, kinds and plans, is byte for byte the same. Assumes nothing.
+use Prim.Native.Nat.{ℕ, suc, _+_, _*_, _≤_, _<_}
+use mathlib.Core.Path.{_≡_, refl, sym, ap, ap₂, _∙_, subst}
 use mathlib.Core.Bool.{true}
 use mathlib.Core.List.{List, [], _∷_, map}
 use native.Mathlib.Omega.{arith}
 use lib.Dec.{leb}
-use lib.ListN.{length, length-append, length-map}
+use lib.ListN.{length, getD, length-append, length-map}
 use lib.Seq.{take-at, drop-at}
 use borrow.Author.Tests.{le-leb, eq-eqb}
 use Rattle.meaning.specs.Answer.{given, passed}
@@ -13,11 +13,11 @@ use Rattle.meaning.specs.Limits.{mostColumns, mostNumbers, mostBytes, planBytes
 use Rattle.meaning.specs.Lists.{all, sum, joined, largest}
 use Rattle.meaning.specs.Operations.{Order, listedBy, ordersHold, writeListed, writeSheet, ordersOf, writeApart, check}
 use Rattle.meaning.specs.Places.{Below}
-use Rattle.meaning.specs.Sheet.{Listed, Column, columnFor, assemble, sheetBytes, columnsOf, tableSize, largestCount}
+use Rattle.meaning.specs.Sheet.{Listed, Column, columnFor, assemble, sheetBytes, editionOf, columnsOf, tableSize, largestCount}
 use Rattle.meaning.proofs.Tests.{true-both}
 use Rattle.table.specs.Offsets.{blankColumn}
 use Rattle.table.proofs.Assembled.{columns-back}
-use Rattle.table.proofs.Columns.{column-count, sizes-all}
+use Rattle.table.proofs.Columns.{column-count, edition-is, sizes-all}
 use Rattle.table.proofs.Sounds.{sound-sheet, sound-table}
 use Rattle.writer.specs.Orders.{orderHolds, listJudged, listRises}
 use Rattle.sheet.proofs.Checks.{check-passed}
@@ -28,14 +28,21 @@ use Rattle.demands.proofs.Passing.{all-turn}
 later : (c : Column) (cs : List Column) → AllKept (c ∷ cs) → AllKept cs
 later c cs kept k h = kept (suc k) (omega arith)
 
--- ---- a column that was read and is written again is the same
-same-column : (c : Column) → Kept c → columnFor (listedFor c) ≡ c
-same-column c kept =
-    λ i. record { kind = c .kind; plan = c .plan; count = kept .many i; size = (ap length (kept .body) ∙ kept .long) i; body = kept .body i }
+-- the columns are of one edition
+abbrev Of : ℕ → List Column → Type 0
+Of edition cs = (k : ℕ) → k < length cs → getD cs k blankColumn .edition ≡ edition
 
-same-columns : (cs : List Column) → AllKept cs → map columnFor (map listedFor cs) ≡ cs
-same-columns [] kept = refl
-same-columns (c ∷ cs) kept = ap₂ (λ (d : Column) (ds : List Column). d ∷ ds) (same-column c (kept 0 (omega arith))) (same-columns cs (later c cs kept))
+-- ---- a column that was read and is written again in its edition is the same
+same-column : (edition : ℕ) (c : Column) → c .edition ≡ edition → Kept c → columnFor edition (listedFor c) ≡ c
+same-column edition c made kept =
+    let size = ap length (kept .body) ∙ kept .long in
+    λ i. record { edition = sym made i; kind = c .kind; plan = c .plan; count = kept .many i; size = size i; body = kept .body i }
+
+same-columns : (edition : ℕ) (cs : List Column) → Of edition cs → AllKept cs → map (columnFor edition) (map listedFor cs) ≡ cs
+same-columns edition [] made kept = refl
+same-columns edition (c ∷ cs) made kept =
+    ap₂ (λ (d : Column) (ds : List Column). d ∷ ds) (same-column edition c (made 0 (omega arith)) (kept 0 (omega arith)))
+    (same-columns edition cs (λ k h. made (suc k) (omega arith)) (later c cs kept))
 
 -- ---- its own orders make its own columns
 own-listed : (cs : List Column) → AllKept cs → listedBy (map orderFor cs) (joined numbersFor cs) ≡ map listedFor cs
@@ -62,10 +69,12 @@ unfolding sum joined
 own-sum [] kept = refl
 own-sum (c ∷ cs) kept = omega (arith, length-append (numbersFor c) (joined numbersFor cs), kept 0 (omega arith) .many, own-sum cs (later c cs kept))
 
-own-risen : (cs : List Column) → AllKept cs → all listRises (map listedFor cs) ≡ true
+own-risen : (edition : ℕ) (cs : List Column) → Of edition cs → AllKept cs → all (listRises edition) (map listedFor cs) ≡ true
 unfolding all
-own-risen [] kept = refl
-own-risen (c ∷ cs) kept = true-both (listRises (listedFor c)) _ (kept 0 (omega arith) .risen) (own-risen cs (later c cs kept))
+own-risen edition [] made kept = refl
+own-risen edition (c ∷ cs) made kept =
+    let risen = subst (λ (e : ℕ). listRises e (listedFor c) ≡ true) (made 0 (omega arith)) (kept 0 (omega arith) .risen) in
+    true-both (listRises edition (listedFor c)) _ risen (own-risen edition cs (λ k h. made (suc k) (omega arith)) (later c cs kept))
 
 own-lengths : (cs : List Column) → AllKept cs → map (λ (l : Listed). length (l .numbers)) (map listedFor cs) ≡ map (λ (c : Column). c .count) cs
 own-lengths [] kept = refl
@@ -73,10 +82,10 @@ own-lengths (c ∷ cs) kept = ap₂ (λ (n : ℕ) (t : List ℕ). n ∷ t) (kept
 
 -- ---- taken apart
 -- slices that are as long together as orders are: the writer on orders taken apart is the writer on those orders
-pub apart-is : (kinds plans counts numbers : List ℕ) (work room : ℕ) → length plans ≡ planBytes * length kinds → length counts ≡ length kinds
-    → writeApart kinds plans counts numbers work room ≡ writeSheet (ordersOf kinds plans counts) numbers work room
+pub apart-is : (edition : ℕ) (kinds plans counts numbers : List ℕ) (work room : ℕ) → length plans ≡ planBytes * length kinds → length counts ≡ length kinds
+    → writeApart edition kinds plans counts numbers work room ≡ writeSheet edition (ordersOf kinds plans counts) numbers work room
 unfolding writeApart
-apart-is kinds plans counts numbers work room planned counted =
+apart-is edition kinds plans counts numbers work room planned counted =
     rw (eq-eqb (length plans) (planBytes * length kinds) planned, eq-eqb (length counts) (length kinds) counted)
 
 -- the slices of columns
@@ -111,25 +120,27 @@ module _ (sheet : List ℕ) (bytes : Below 256 sheet) (checkWork : ℕ) (passes 
   kept : AllKept cs
   kept = all-kept sheet bytes checkWork passes
 
-  sheet-back : sheetBytes (map listedFor cs) ≡ sheet
+  of-one : Of (editionOf sheet) cs
+  of-one k h = edition-is sheet k (omega (arith, column-count sheet))
+
+  sheet-back : sheetBytes (editionOf sheet) (map listedFor cs) ≡ sheet
   unfolding sheetBytes
   sheet-back =
       let is = sound-sheet sheet (check-passed sheet checkWork passes .ready .sounds) in
       let table = sound-table sheet (check-passed sheet checkWork passes .ready .sounds) in
       let filled : tableSize sheet + sum (map (λ (c : Column). c .size) cs) ≡ length sheet = omega (arith, sizes-all sheet, table .filled) in
-      ap (assemble 1) (same-columns cs kept)
-      ∙ ap (λ (e : ℕ). assemble e cs) (sym (is .edition))
+      ap (assemble (editionOf sheet)) (same-columns (editionOf sheet) cs of-one kept)
       ∙ columns-back sheet bytes (is .least) (table .whole) filled
 
   -- with work as stated and an output that holds it
   module _ (work room : ℕ) (enough : 7 * largestCount sheet ≤ work) (fits : length sheet ≤ room) where
-    listed-back : writeListed (map listedFor cs) work room ≡ given sheet
+    listed-back : writeListed (editionOf sheet) (map listedFor cs) work room ≡ given sheet
     unfolding writeListed largestCount
     listed-back =
         let is = sound-sheet sheet (check-passed sheet checkWork passes .ready .sounds) in
         rw (
           all-turn listJudged listedFor 0 blankColumn cs (λ k h. (tt, kept k h .judged)),
-          own-risen cs kept,
+          own-risen (editionOf sheet) cs of-one kept,
           own-lengths cs kept,
           le-leb (7 * largest (map (λ (c : Column). c .count) cs)) work enough,
           sheet-back,
@@ -145,14 +156,16 @@ module _ (sheet : List ℕ) (bytes : Below 256 sheet) (checkWork : ℕ) (passes 
         let whole = eq-eqb (sum (map (λ (o : Order). o .count) (ownOrders sheet))) (length (ownNumbers sheet)) (own-sum cs kept) in
         true-both (leb (length (ownOrders sheet)) mostColumns) _ few (true-both (all orderHolds (ownOrders sheet)) _ (own-holds cs kept) whole)
 
-    pub same-sheet : writeSheet (ownOrders sheet) (ownNumbers sheet) work room ≡ given sheet
+    pub same-sheet : writeSheet (editionOf sheet) (ownOrders sheet) (ownNumbers sheet) work room ≡ given sheet
     unfolding writeSheet
-    same-sheet = rw (own-orders, own-listed cs kept) listed-back
+    same-sheet =
+        let is = sound-sheet sheet (check-passed sheet checkWork passes .ready .sounds) in
+        rw (is .edition, own-orders, own-listed cs kept) listed-back
 
-    pub same-apart : writeApart (ownKinds sheet) (ownPlans sheet) (ownCounts sheet) (ownNumbers sheet) work room ≡ given sheet
+    pub same-apart : writeApart (editionOf sheet) (ownKinds sheet) (ownPlans sheet) (ownCounts sheet) (ownNumbers sheet) work room ≡ given sheet
     same-apart =
         let kinds = length-map cs (λ (c : Column). c .kind) in
-        apart-is (ownKinds sheet) (ownPlans sheet) (ownCounts sheet) (ownNumbers sheet) work room (omega (arith, own-plans cs kept, kinds))
+        apart-is (editionOf sheet) (ownKinds sheet) (ownPlans sheet) (ownCounts sheet) (ownNumbers sheet) work room (omega (arith, own-plans cs kept, kinds))
         (length-map cs (λ (c : Column). c .count) ∙ sym kinds)
-        ∙ ap (λ (os : List Order). writeSheet os (ownNumbers sheet) work room) (own-apart cs kept)
+        ∙ ap (λ (os : List Order). writeSheet (editionOf sheet) os (ownNumbers sheet) work room) (own-apart cs kept)
         ∙ same-sheet

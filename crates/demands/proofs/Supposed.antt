@@ -1,6 +1,6 @@
--- What the demands suppose can be met: the README's two columns are within the limits, the empty sheet passes, and a sheet's own orders can be lent.
+-- What the demands suppose can be met: two columns are within the limits in either edition, the empty sheet passes, and a sheet's own orders can be lent.
 -- Assumes nothing.
-use Prim.Native.Nat.{ℕ, _<_}
+use Prim.Native.Nat.{ℕ, _≤_, _<_}
 use mathlib.Core.Path.{_≡_, refl, ap}
 use mathlib.Core.Bool.{true}
 use mathlib.Core.List.{List, [], _∷_, map}
@@ -10,9 +10,9 @@ use lib.ListN.{replicate}
 use borrow.Author.Tests.{ltb-true}
 use Rattle.meaning.specs.Limits.{numberLimit}
 use Rattle.meaning.specs.Lists.{all}
-use Rattle.meaning.specs.Operations.{Order as OrderMeant}
+use Rattle.meaning.specs.Operations.{Order as OrderMeant, listedBy}
 use Rattle.meaning.specs.Places.{Below}
-use Rattle.meaning.specs.Sheet.{Column, columnsOf}
+use Rattle.meaning.specs.Sheet.{isEdition, ofKind, worstSheet, Column, columnsOf}
 use Rattle.meaning.proofs.Bounds.{below-nil, below-cons}
 use Rattle.meaning.proofs.Computed.{meaning}
 use Rattle.meaning.proofs.Tests.{both-true}
@@ -28,24 +28,36 @@ below-all m h (x ∷ xs) e =
     let (a, b) = both-true (ltb x m) (all (λ y. ltb y m) xs) e in
     below-cons m x xs (ltb-true x m a) (below-all m h xs b)
 
-pub within-some :
-    Within (record { kind = 1; plan = 17 ∷ 4 ∷ replicate 13 0; count = 3 } ∷ record { kind = 0; plan = replicate 15 0; count = 3 } ∷ [])
-    (1000 ∷ 1002 ∷ 1300 ∷ 0 ∷ 256 ∷ 3 ∷ []) (replicate 21 0) (replicate 78 0)
+-- three jobs of the README's night
+abbrev orders : List OrderMeant
+orders = record { kind = 1; plan = 17 ∷ 4 ∷ replicate 13 0; count = 3 } ∷ record { kind = 0; plan = replicate 15 0; count = 3 } ∷ []
+
+abbrev lists : List ℕ
+lists = 1000 ∷ 1002 ∷ 1300 ∷ 0 ∷ 256 ∷ 3 ∷ []
+
+-- what the edition does not touch
+in-edition : (edition : ℕ) → isEdition edition ≡ true → all (λ l. ofKind edition (l .kind) (l .numbers)) (listedBy orders lists) ≡ true
+    → worstSheet edition (listedBy orders lists) ≤ 78 → Within edition orders lists (replicate 21 0) (replicate 78 0)
 unfolding meaning
-within-some =
+in-edition edition asked kinds worst =
     record {
+      asked = asked;
       limits = refl;
-      numbers = below-all numberLimit (omega arith) (1000 ∷ 1002 ∷ 1300 ∷ 0 ∷ 256 ∷ 3 ∷ []) refl;
-      kinds = refl;
+      numbers = below-all numberLimit (omega arith) lists refl;
+      kinds = kinds;
       plans = refl;
       enough = omega arith;
       short = omega arith;
       fits = omega arith;
     }
 
-pub passing-some : Passing (1 ∷ 0 ∷ [])
+pub within-some : Within 1 orders lists (replicate 21 0) (replicate 78 0) × Within 2 orders lists (replicate 21 0) (replicate 78 0)
 unfolding meaning
-passing-some = record { bytes = below-all 256 (omega arith) (1 ∷ 0 ∷ []) refl; passes = ([], refl) }
+within-some = (in-edition 1 refl refl (omega arith), in-edition 2 refl refl (omega arith))
+
+pub passing-some : Passing (2 ∷ 0 ∷ [])
+unfolding meaning
+passing-some = record { bytes = below-all 256 (omega arith) (2 ∷ 0 ∷ []) refl; passes = ([], refl) }
 
 -- orders that `orders::write` takes, and that say what the sheet's own say
 pub own-list : (sheet : List ℕ) → (orders : List Order) × (map orderSays orders ≡ ownOrders sheet)

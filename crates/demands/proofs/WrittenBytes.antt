@@ -10,11 +10,11 @@ use lib.Seq.{getD-drop}
 use borrow.Author.Tests.{eqb-true, leb-true}
 use Rattle.meaning.specs.Bytes.{word}
 use Rattle.meaning.specs.Codes.{isCode, lastCode}
-use Rattle.meaning.specs.Limits.{mostColumns, planBytes, mostStages, badPlan}
+use Rattle.meaning.specs.Limits.{mostColumns, planBytes, mostStages, lastEdition, badPlan}
 use Rattle.meaning.specs.Lists.{all, joined}
 use Rattle.meaning.specs.Places.{Below}
 use Rattle.meaning.specs.Plan.{Plan, bad, code, reference, differences, runs, planSize, planBy, planAt, planOf, good, wellFormed, judgePlan}
-use Rattle.meaning.specs.Sheet.{Listed, bodyOf, entryBytes, sheetBytes}
+use Rattle.meaning.specs.Sheet.{isEdition, Listed, bodyOf, entryBytes, sheetBytes}
 use Rattle.meaning.proofs.Answers.{need-given}
 use Rattle.meaning.proofs.Bounds.{below-nil, below-cons, below-append}
 use Rattle.meaning.proofs.Tests.{both-true, by-order}
@@ -94,8 +94,8 @@ plan-bytes plan e i =
     omega (arith, sym (getD-drop n plan (i - n) 0) ∙ zero-each (drop n plan) z (i - n), ap (λ (j : ℕ). getD plan j 0) k))
 
 -- ---- an entry, a body, and all of them
-module _ (l : Listed) (w : Writable l) where
-  entry-bytes : Below 256 (entryLaid l)
+module _ (edition : ℕ) (l : Listed) (w : Writable edition l) where
+  entry-bytes : Below 256 (entryLaid edition l)
   unfolding entryBytes judgePlan
   entry-bytes =
       let (formed, rest) = need-given (wellFormed (l .plan)) badPlan _ tt (w .judged) in
@@ -114,12 +114,15 @@ joined-bytes f (l ∷ ls) h =
     below-append 256 (f l) (joined f ls) (h 0 (omega arith)) (joined-bytes f ls (λ (k : ℕ) (i : k < length ls). h (suc k) (omega arith)))
 
 -- ---- the sheet
-pub written-bytes : (ls : List Listed) → AllWritable ls → length ls ≤ mostColumns → Below 256 (sheetBytes ls)
-written-bytes ls w few =
-    let entries = joined entryLaid ls in
+pub written-bytes : (edition : ℕ) (ls : List Listed) → AllWritable edition ls → isEdition edition ≡ true → length ls ≤ mostColumns
+    → Below 256 (sheetBytes edition ls)
+unfolding isEdition
+written-bytes edition ls w known few =
+    let last = leb-true edition lastEdition (both-true (leb 1 edition) (leb edition lastEdition) known .1) in
+    let entries = joined (entryLaid edition) ls in
     let bodies = joined bodyOf ls in
-    subst (Below 256) (sym (sheet-is ls))
-    (below-cons 256 1 (length ls ∷ (entries ++ bodies)) (omega arith)
+    subst (Below 256) (sym (sheet-is edition ls))
+    (below-cons 256 edition (length ls ∷ (entries ++ bodies)) (omega arith)
     (below-cons 256 (length ls) (entries ++ bodies) (omega (arith, few))
-    (below-append 256 entries bodies (joined-bytes entryLaid ls (λ k h. entry-bytes (getD ls k blankListed) (w k h)))
-    (joined-bytes bodyOf ls (λ k h. body-bytes (getD ls k blankListed) (w k h))))))
+    (below-append 256 entries bodies (joined-bytes (entryLaid edition) ls (λ k h. entry-bytes edition (getD ls k blankListed) (w k h)))
+    (joined-bytes bodyOf ls (λ k h. body-bytes edition (getD ls k blankListed) (w k h))))))

@@ -6,7 +6,8 @@
 --     Judges kind plan r                     judge::judge       Sizes plan n r           judge::worst_size     Checks sheet work r         sheet::check
 --     Reads sheet k work o (r, o′)           sheet::read        Looks sheet k place r    sheet::lookup         Counts sheet work r         sheet::board
 --     Opens sheet k (standing s, e)          reader::open       Steps s (r, s′)          reader::step          Fetches sheet k (part, e)   table::fetch
---     Writes orders joined work o (r, o′)    orders::write      WritesApart kinds plans counts joined work o (r, o′)                       writer::write
+--     Writes edition orders joined work o (r, o′)               orders::write
+--     WritesApart edition kinds plans counts joined work o (r, o′)                                             writer::write
 -- Not here, since it is the checker's verdict on each function: that each operation, for all input, ends, does nothing undefined, checks what it is lent (no
 -- contract asks anything of its caller) and meets its contract. A sheet is lent to be read, so it keeps its contents; what work holds after a call is free.
 use Prim.Native.Nat.{ℕ, suc, _*_, _≤_, _<_}
@@ -23,8 +24,8 @@ use Rattle.meaning.specs.Operations.{writeSheet, writeApart, check, readSheet, 
 use Rattle.meaning.specs.Places.{Below}  -- every number of a list is below
 use Rattle.meaning.specs.Plan.{judgePlan, judge, worstSize}  -- a plan judged for a kind; the same asked alone, and the worst size
 use Rattle.meaning.specs.Says.{judgedSays, sizedSays, readingSays, foundSays, checkedSays, countedSays}  -- what an answer of the source says
-use Rattle.meaning.specs.Sheet.{ofKind, sheetBytes, worstSheet}  -- a list is of a kind; the defined bytes of columns; their worst size
-use Rattle.meaning.specs.Sheet.{columnsOf, columnAt, readColumn, largestCount}  -- a sheet's columns; column k; a column read strictly; the largest count
+use Rattle.meaning.specs.Sheet.{isEdition, ofKind, sheetBytes, worstSheet}  -- 1 or 2; a list is of a kind; the defined bytes of columns; their worst size
+use Rattle.meaning.specs.Sheet.{editionOf, columnsOf, columnAt, readColumn, largestCount}  -- byte 0; its columns; column k; one read strictly; largest count
 use Rattle.writer.specs.Orders.{blankListed}  -- what stands for a column that is not there
 use Rattle.demands.specs.Contracts.{Judges, Sizes, Writes, WritesApart, Checks, Reads, Looks, Counts, Fetches, Opens, Steps}
 use Rattle.demands.specs.Contracts.{Sized, Reading, Found, Checked, Reader, standing, answer}  -- answers; a reader, where it stands, what it tells next
@@ -45,10 +46,11 @@ pub record Demand1 : Type 0 where  -- the public operations
   pub judging : (kind : ℕ) (plan : List ℕ)
       → Answers (Judges kind plan) (λ r. number (judgedSays r)) (verdictOf (judge kind plan)) (3 ∷ 4 ∷ 11 ∷ []) (λ r. Unit {0})
   pub sizing : (plan : List ℕ) (n : ℕ) → Answers (Sizes plan n) (λ r. number (sizedSays r)) (verdictOf (worstSize plan n)) (3 ∷ 11 ∷ []) (λ r. Unit {0})
-  pub writing : (orders : List Order) (joined work o : List ℕ) → Answers (Writes orders joined work o) (λ a. number (sizedSays (a .0)))
-      (verdictOf (writeSheet orders joined (length work) (length o))) (3 ∷ 4 ∷ 7 ∷ 8 ∷ 10 ∷ 11 ∷ []) (λ a. a .1 ≡ o)
-  pub writingApart : (kinds plans counts joined work o : List ℕ) → Answers (WritesApart kinds plans counts joined work o) (λ a. number (sizedSays (a .0)))
-      (verdictOf (writeApart kinds plans counts joined (length work) (length o))) (3 ∷ 4 ∷ 7 ∷ 8 ∷ 10 ∷ 11 ∷ []) (λ a. a .1 ≡ o)
+  pub writing : (edition : ℕ) (orders : List Order) (joined work o : List ℕ) → Answers (Writes edition orders joined work o) (λ a. number (sizedSays (a .0)))
+      (verdictOf (writeSheet edition orders joined (length work) (length o))) (3 ∷ 4 ∷ 7 ∷ 8 ∷ 10 ∷ 11 ∷ []) (λ a. a .1 ≡ o)
+  pub writingApart : (edition : ℕ) (kinds plans counts joined work o : List ℕ)
+      → Answers (WritesApart edition kinds plans counts joined work o) (λ a. number (sizedSays (a .0)))
+      (verdictOf (writeApart edition kinds plans counts joined (length work) (length o))) (3 ∷ 4 ∷ 7 ∷ 8 ∷ 10 ∷ 11 ∷ []) (λ a. a .1 ≡ o)
   pub checking : (sheet work : List ℕ)
       → Answers (Checks sheet work) (λ r. refusal (checkedSays r)) (check sheet (length work)) (1 ∷ 2 ∷ 3 ∷ 4 ∷ 8 ∷ 9 ∷ []) (λ r. Unit {0})
   pub reading : (sheet : List ℕ) (k : ℕ) (work o : List ℕ) → Answers (Reads sheet k work o) (λ a. number (readingSays (a .0)))
@@ -63,38 +65,39 @@ pub record Demand1 : Type 0 where  -- the public operations
       (1 ∷ 2 ∷ 3 ∷ 4 ∷ 5 ∷ 6 ∷ 9 ∷ []) (λ a. a .1 ≡ s)
 
 -- ---- DEMAND 2. Writing gives precisely the bytes that the papers and document 01 define; reading precisely the lists; a sheet that passes the check, written
--- again from its own lists, kinds and plans, comes out byte for byte the same.
+-- again in its own edition from its own lists, kinds and plans, comes out byte for byte the same.
 pub record Passing (sheet : List ℕ) : Type 0 where
   pub bytes : Below 256 sheet  -- its elements are bytes, as those of every lent `&[u8]` are,
   pub passes : (work : List ℕ) × Checks sheet work Passed  -- and the check, with some work, passed it
 
 pub record Demand2 : Type 0 where
-  -- what was written are the defined bytes of the columns ordered, and no other byte of the output is changed
-  pub writing : (orders : List Order) (joined work o o′ : List ℕ) (n : ℕ) → Writes orders joined work o (Bytes n, o′)
-      → (n ≡ length (sheetBytes (listedBy orders joined))) × (o′ ≡ sheetBytes (listedBy orders joined) ++ drop n o)
+  -- what was written are the defined bytes of the columns ordered in the edition asked for, and no other byte of the output is changed
+  pub writing : (edition : ℕ) (orders : List Order) (joined work o o′ : List ℕ) (n : ℕ) → Writes edition orders joined work o (Bytes n, o′)
+      → (n ≡ length (sheetBytes edition (listedBy orders joined))) × (o′ ≡ sheetBytes edition (listedBy orders joined) ++ drop n o)
   -- slices that are as long together as orders are: the same writer, so that what is said of `Writes` is said of both
-  pub apart : (kinds plans counts joined work o : List ℕ) (a : Sized × List ℕ) → length plans ≡ planBytes * length kinds → length counts ≡ length kinds
-      → WritesApart kinds plans counts joined work o a → Writes (ordersOf kinds plans counts) joined work o a
+  pub apart : (edition : ℕ) (kinds plans counts joined work o : List ℕ) (a : Sized × List ℕ) → length plans ≡ planBytes * length kinds
+      → length counts ≡ length kinds → WritesApart edition kinds plans counts joined work o a → Writes edition (ordersOf kinds plans counts) joined work o a
   -- what was read is the list of the defined reading, and no other place of the output is changed
   pub reading : (sheet : List ℕ) (k : ℕ) (work o o′ : List ℕ) (n : ℕ) → Reads sheet k work o (Whole n, o′)
       → (readColumn (columnAt sheet k) ≡ given (numbersAt sheet k)) × (n ≡ length (numbersAt sheet k)) × (o′ ≡ numbersAt sheet k ++ drop n o)
-  -- with work as stated and an output that holds the sheet, its own orders and lists are written as the sheet
+  -- with work as stated and an output that holds the sheet, its own orders and lists are written in its edition as the sheet
   pub again : (sheet : List ℕ) → Passing sheet → (work o : List ℕ) → 7 * largestCount sheet ≤ length work → length sheet ≤ length o → (a : Sized × List ℕ)
-      → Writes (ownOrders sheet) (ownNumbers sheet) work o a → a ≡ (Bytes (length sheet), sheet ++ drop (length sheet) o)
+      → Writes (editionOf sheet) (ownOrders sheet) (ownNumbers sheet) work o a → a ≡ (Bytes (length sheet), sheet ++ drop (length sheet) o)
   pub againApart : (sheet : List ℕ) → Passing sheet → (work o : List ℕ) → 7 * largestCount sheet ≤ length work → length sheet ≤ length o
-      → (a : Sized × List ℕ) → WritesApart (ownKinds sheet) (ownPlans sheet) (ownCounts sheet) (ownNumbers sheet) work o a
+      → (a : Sized × List ℕ) → WritesApart (editionOf sheet) (ownKinds sheet) (ownPlans sheet) (ownCounts sheet) (ownNumbers sheet) work o a
       → a ≡ (Bytes (length sheet), sheet ++ drop (length sheet) o)
 
 -- ---- DEMAND 3. A plan passed for a kind never gets stuck: within the limits the lists are written, in no more than the worst size, and the sheet passes.
 -- In any sheet that passes, a lookup at every place gives the number of the defined reading, and no read refuses.
-pub record Within (orders : List Order) (joined work o : List ℕ) : Type 0 where
+pub record Within (edition : ℕ) (orders : List Order) (joined work o : List ℕ) : Type 0 where
+  pub asked : isEdition edition ≡ true  -- edition 1 or 2, whichever is asked for,
   pub limits : ordersHold orders joined ≡ true  -- at most 16 orders, kinds at most 1, counts at most 1,024 that sum to the joined slice,
   pub numbers : Below numberLimit joined  -- and numbers below 2^32
-  pub kinds : all (λ l. ofKind (l .kind) (l .numbers)) (listedBy orders joined) ≡ true  -- lists of the declared kinds
+  pub kinds : all (λ l. ofKind edition (l .kind) (l .numbers)) (listedBy orders joined) ≡ true  -- lists of the declared kinds, by the edition
   pub plans : inTurn (λ l. judgePlan (l .kind) (l .plan)) 0 (listedBy orders joined) ≡ passed  -- plans passed, the default where an order has 15 zeros
   pub enough : 7 * largest (map (λ l. length (l .numbers)) (listedBy orders joined)) ≤ length work  -- work as stated
-  pub short : worstSheet (listedBy orders joined) ≤ mostBytes  -- a worst size that a sheet may have,
-  pub fits : worstSheet (listedBy orders joined) ≤ length o  -- and that the output can hold
+  pub short : worstSheet edition (listedBy orders joined) ≤ mostBytes  -- a worst size that a sheet may have,
+  pub fits : worstSheet edition (listedBy orders joined) ≤ length o  -- and that the output can hold
 
 -- column k holds the list xs: looked up, read with work as stated into an output that can hold it, and stepped through, it is that list
 pub record Holds (sheet : List ℕ) (k : ℕ) (xs : List ℕ) : Type 0 where
@@ -106,18 +109,20 @@ pub record Holds (sheet : List ℕ) (k : ℕ) (xs : List ℕ) : Type 0 where
   pub calls : (readers : ℕ → Reader) (answers : ℕ → Found) (e n : ℕ) → Opens sheet k (standing (readers 0), e)
       → ((i : ℕ) → i ≤ n → Steps (readers i) (answers i, readers (suc i))) → n < length xs → answers n ≡ Number (getD xs n 0)
 
-pub record Carries (orders : List Order) (joined : List ℕ) (a : Sized × List ℕ) : Type 0 where  -- a is an answer of the writer, and its output
+pub record Carries (edition : ℕ) (orders : List Order) (joined : List ℕ) (a : Sized × List ℕ) : Type 0 where  -- a is an answer of the writer, and its output
   pub size : ℕ
   pub written : a .0 ≡ Bytes size  -- the lists are written,
-  pub most : size ≤ worstSheet (listedBy orders joined)  -- in no more than the worst size,
+  pub most : size ≤ worstSheet edition (listedBy orders joined)  -- in no more than the worst size,
+  pub made : editionOf (take size (a .1)) ≡ edition  -- in the edition asked for,
   pub bytes : Below 256 (take size (a .1))  -- in bytes; the sheet passes, with the work that the check asks for,
   pub passes : (work : List ℕ) → 8 * largestCount (take size (a .1)) ≤ length work → (r : Checked) → Checks (take size (a .1)) work r → r ≡ Passed
   pub holds : (k : ℕ) → k < length orders → Holds (take size (a .1)) k (getD (listedBy orders joined) k blankListed .numbers)  -- and holds the lists ordered
 
 pub record Demand3 : Type 0 where
   -- from end to end: written, checked, looked up, read and stepped through
-  pub neverStuck : (orders : List Order) (joined work o : List ℕ) → Within orders joined work o → (a : Sized × List ℕ) → Writes orders joined work o a
-      → Carries orders joined a
-  -- a column is read strictly as a list of its count, and holds it
-  pub anySheet : (sheet : List ℕ) → Passing sheet → (k : ℕ) → k < length (columnsOf sheet) → (readColumn (columnAt sheet k) ≡ given (numbersAt sheet k))
-      × (length (numbersAt sheet k) ≡ columnAt sheet k .count) × Holds sheet k (numbersAt sheet k)
+  pub neverStuck : (edition : ℕ) (orders : List Order) (joined work o : List ℕ) → Within edition orders joined work o → (a : Sized × List ℕ)
+      → Writes edition orders joined work o a → Carries edition orders joined a
+  -- a column is read strictly as a list of its count, of the declared kind by the sheet's edition, and holds it
+  pub anySheet : (sheet : List ℕ) → Passing sheet → (k : ℕ) → k < length (columnsOf sheet)
+      → (readColumn (columnAt sheet k) ≡ given (numbersAt sheet k)) × (length (numbersAt sheet k) ≡ columnAt sheet k .count)
+      × (ofKind (editionOf sheet) (columnAt sheet k .kind) (numbersAt sheet k) ≡ true) × Holds sheet k (numbersAt sheet k)

@@ -26,9 +26,8 @@ use types.Kit.{Post, Goal, prop, runs, lands, allocs, frees, Go, Seq, Step, step
 use types.Run.{Reads, Writes, Opd, Opds, Rv, look, stop, fld, from, load, addr, no-more, and-then, assigns, land, alloc1, forget, free1}
 use sound.WpLaws.{FmC}
 use denote.RattleType.{RattleType, Denots, Valss, owns}
-use denote.Builtin.{usize}
 use denote.Laws.{Is, shows}
-use denote.Plain.{uint-makes}
+use denote.Plain.{UInt, uint-makes}
 use denote.Ref.{RefT}
 use denote.Signature.{Slot, Signature, typeAt, typesAt}
 use denote.Slice.{sliceVal, ShrSlice, shr-slice-copy}
@@ -235,15 +234,15 @@ module _ {M : Type 1} {𝓤 : URA M} {H : Heap 𝓤} {A : Atoms 𝓤} {K : Type 
     freed t n m e = step (λ s. ordered t (n ∷ m ∷ []) e $ free1 t $ s)
 
   module _ {Γ : List (Item 𝓤)} {G : Goal 𝓤 H} where
-    -- what a shared slice owns, twice; and what a number owns, for nothing
+    -- what a shared slice owns, twice; and what a number of a width owns, for nothing
     pub doubles : K → (ℓ : Lifetime) (κ : Lft) (R : RattleType) (s : RefT (List (R .Denot))) (vs : List Val)
         → Step K W (‵ (ShrSlice ℓ κ R .own s vs) ∷ ‵ (ShrSlice ℓ κ R .own s vs) ∷ Γ) G (‵ (ShrSlice ℓ κ R .own s vs) ∷ Γ) G
     doubles t ℓ κ R s vs =
         let F = ShrSlice ℓ κ R .own s vs in
         step (λ x. use1 W (‵ F ⊛ ‵ F) (shr-slice-copy 𝓤 H A W ℓ κ R .twice s vs) $ split t $ x)
 
-    pub number : K → (n : ℕ) → n < 2 ^ 64 → Step K W (‵ (usize .own n (vint w64 n ∷ [])) ∷ Γ) G Γ G
-    number t n h = owned t usize (Is usize) (uint-makes 𝓤 H A W w64) n (vint w64 n ∷ []) (refl, h)
+    pub number : K → (w : Width) (n : ℕ) → n < 2 ^ bits w → Step K W (‵ (UInt w .own n (vint w n ∷ [])) ∷ Γ) G Γ G
+    number t w n h = owned t (UInt w) (Is (UInt w)) (uint-makes 𝓤 H A W w) n (vint w n ∷ []) (refl, h)
 
 -- ---- a call of a function, and its own end, by its contract: at lifetimes κs, shares qs, arguments a and their machine values vss
 module _ {M : Type 1} {𝓤 : URA M} {H : Heap 𝓤} {A : Atoms 𝓤} (W : Given 𝓤 H A) (T : Ended) (c : Clauses 𝓤 T)

@@ -26,6 +26,11 @@ module _ {A : Type 0} where
   need-given true e m a q = (refl, q)
   need-given false e m a q = absurd (not-given e a q)
 
+  -- a refusal by the number of the test before it
+  pub need-refused : (b : Bool) (e : ℕ) → need {A = A} b e (refused e) ≡ refused e
+  need-refused true e = refl
+  need-refused false e = refl
+
 -- a list's amount is refused as the list is
 pub amount-number : (m : Answer (List ℕ)) → number (amount m) ≡ number m
 amount-number (given xs) = refl

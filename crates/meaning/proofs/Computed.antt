@@ -9,12 +9,12 @@ use Rattle.meaning.specs.G8IU.{fits, blocksFrom, blocks, bitsLow, number
 use Rattle.meaning.specs.G8IU.{lengthsBy, blockLengths, blockIn, unitG8IU, joinsG8IU}
 use Rattle.meaning.specs.Groups.{piecesFrom, pieces, groupCount, controlOf, lengthsIn, control, controls, writeGroups, writeStream}
 use Rattle.meaning.specs.Groups.{groupIn, groupFrom, groupAt, unitGroups, unitStream}
-use Rattle.meaning.specs.Lists.{all, sum, largest, joined, neighbours, rises, differ}
+use Rattle.meaning.specs.Lists.{all, sum, largest, joined, neighbours, rises, strict, differ}
 use Rattle.meaning.specs.Operations.{listedBy, ordersHold, writeListed, writeSheet, ordersOf, writeApart}
 use Rattle.meaning.specs.Operations.{check, column, readSheet, lookSheet, fetch, openReader, callOver, call, numbersAt}
 use Rattle.meaning.specs.Operations.{boardHolds, boardVerdict, count, tallyOf, countBoard}
 use Rattle.meaning.specs.Plan.{planSize, planAt, planOf, good, wellFormed, passes, judgePlan, judge, defaultPlan, planUsed, worstPlan, worstSize}
-use Rattle.meaning.specs.Sheet.{ofKind, entrySize, entryBytes, assemble, sheetBytes, worstSheet}
+use Rattle.meaning.specs.Sheet.{isEdition, ofKind, entrySize, entryBytes, assemble, sheetBytes, worstSheet}
 use Rattle.meaning.specs.Sheet.{columnsIn, columnsOf, isSheet, tableHolds, sound, readColumn, checkColumn, largestCount}
 use Rattle.meaning.specs.Stages.{leastOf, least, lessBefore, sumsFrom, valuesAfter, lengthsAfter, runValues, runLengths, unroll, write}
 use Rattle.meaning.specs.Stages.{small, raised, summed, unrolled, runHeader, read, within, total, seek, look}
@@ -33,12 +33,12 @@ unfolding
     fits blocksFrom blocks bitsLow numberLow endBits blockControl block writeG8IU
     lengthsBy blockLengths blockIn unitG8IU joinsG8IU
     piecesFrom pieces groupCount controlOf lengthsIn control controls writeGroups writeStream groupIn groupFrom groupAt unitGroups unitStream
-    all sum largest joined neighbours rises differ
+    all sum largest joined neighbours rises strict differ
     listedBy ordersHold writeListed writeSheet ordersOf writeApart
     check column readSheet lookSheet fetch openReader callOver call numbersAt
     boardHolds boardVerdict count tallyOf countBoard
     planSize planAt planOf good wellFormed passes judgePlan judge defaultPlan planUsed worstPlan worstSize
-    ofKind entrySize entryBytes assemble sheetBytes worstSheet
+    isEdition ofKind entrySize entryBytes assemble sheetBytes worstSheet
     columnsIn columnsOf isSheet tableHolds sound readColumn checkColumn largestCount
     leastOf least lessBefore sumsFrom valuesAfter lengthsAfter runValues runLengths unroll write
     small raised summed unrolled runHeader read within total seek look

@@ -1,4 +1,5 @@
--- The other marked examples, the decisions of docs/DECISIONS.md (d1 to d13, and p1 for request P1) and the order of refusals, computed. Assumes nothing.
+-- The other marked examples, the decisions of docs/DECISIONS.md (d1 to d13; p1, p3 for requests P1, P3) and the order of refusals, computed.
+-- Assumes nothing.
 use Prim.Native.Nat.{ℕ}
 use mathlib.Core.Path.{_≡_, refl}
 use mathlib.Core.List.{List, [], _∷_, _++_}
@@ -56,7 +57,7 @@ unfolding meaning
 d1-zeros = refl
 
 -- in an order they are 17 1 for kind 1
-d1-order : writeApart (1 ∷ []) (replicate 15 0) (3 ∷ []) (5 ∷ 5 ∷ 133 ∷ []) 21 30
+d1-order : writeApart 1 (1 ∷ []) (replicate 15 0) (3 ∷ []) (5 ∷ 5 ∷ 133 ∷ []) 21 30
     ≡ given (1 ∷ 1 ∷ 1 ∷ 17 ∷ 1 ∷ (replicate 13 0 ++ (3 ∷ 0 ∷ 0 ∷ 0 ∷ 4 ∷ 0 ∷ 0 ∷ 0 ∷ 5 ∷ 0 ∷ 128 ∷ 1 ∷ [])))
 unfolding meaning
 d1-order = refl
@@ -91,7 +92,7 @@ unfolding meaning
 worst-above = refl
 
 -- 7 compares with the exact size: 28 bytes fit, 27 do not
-d4-exact : writeApart (0 ∷ []) (1 ∷ replicate 14 0) (2 ∷ []) (1 ∷ 2 ∷ []) 14 27 ≡ refused 7
+d4-exact : writeApart 1 (0 ∷ []) (1 ∷ replicate 14 0) (2 ∷ []) (1 ∷ 2 ∷ []) 14 27 ≡ refused 7
 unfolding meaning
 d4-exact = refl
 
@@ -242,12 +243,12 @@ unfolding meaning
 seventeen = refl
 
 -- writing: a list of kind 1 falls, before 8
-falls-10 : writeApart (1 ∷ []) (replicate 15 0) (2 ∷ []) (2 ∷ 1 ∷ []) 0 0 ≡ refused 10
+falls-10 : writeApart 1 (1 ∷ []) (replicate 15 0) (2 ∷ []) (2 ∷ 1 ∷ []) 0 0 ≡ refused 10
 unfolding meaning
 falls-10 = refl
 
 -- counts not summing to the joined slice, before the plan
-orders-11 : writeApart (0 ∷ []) (9 ∷ replicate 14 0) (2 ∷ []) (1 ∷ []) 14 99 ≡ refused 11
+orders-11 : writeApart 1 (0 ∷ []) (9 ∷ replicate 14 0) (2 ∷ []) (1 ∷ []) 14 99 ≡ refused 11
 unfolding meaning
 orders-11 = refl
 
@@ -282,3 +283,77 @@ p1-unused-field = refl
 p1-left-over : read (code 7) (0x03 ∷ 0 ∷ 0 ∷ []) 1 ≡ refused 9
 unfolding meaning
 p1-left-over = refl
+
+-- ---- request P3: kind 1 by the edition
+p3-empty : check (2 ∷ 0 ∷ []) 0 ≡ passed
+unfolding meaning
+p3-empty = refl
+
+-- an edition that is neither 1 nor 2 is no sheet
+p3-third-edition : check (3 ∷ 0 ∷ []) 0 ≡ blamed 1 0
+unfolding meaning
+p3-third-edition = refl
+
+p3-no-edition : check (0 ∷ 0 ∷ []) 0 ≡ blamed 1 0
+unfolding meaning
+p3-no-edition = refl
+
+-- equal neighbours pass in edition 1, and are a fault in edition 2
+p3-equal-pass : check (1 ∷ 1 ∷ entry 1 2 2 ++ (3 ∷ 3 ∷ [])) 16 ≡ passed
+unfolding meaning
+p3-equal-pass = refl
+
+p3-equal-fault : check (2 ∷ 1 ∷ entry 1 2 2 ++ (3 ∷ 3 ∷ [])) 16 ≡ blamed 9 0
+unfolding meaning
+p3-equal-fault = refl
+
+p3-equal-read : readSheet (2 ∷ 1 ∷ entry 1 2 2 ++ (3 ∷ 3 ∷ [])) 0 14 2 ≡ refused 9
+unfolding meaning
+p3-equal-read = refl
+
+-- numbers that are each above the one before pass, and so do equal ones of kind 0
+p3-above-pass : check (2 ∷ 1 ∷ entry 1 2 2 ++ (3 ∷ 4 ∷ [])) 16 ≡ passed
+unfolding meaning
+p3-above-pass = refl
+
+p3-any-pass : check (2 ∷ 1 ∷ entry 0 2 2 ++ (3 ∷ 3 ∷ [])) 16 ≡ passed
+unfolding meaning
+p3-any-pass = refl
+
+-- a lookup asks no kind
+p3-lookup : lookSheet (2 ∷ 1 ∷ entry 1 2 2 ++ (3 ∷ 3 ∷ [])) 0 1 ≡ given 3
+unfolding meaning
+p3-lookup = refl
+
+-- inner lists are not asked: 5, 6, 7 by its differences 5, 1, 1
+p3-inner : check (2 ∷ 1 ∷ 1 ∷ 17 ∷ 1 ∷ replicate 13 0 ++ (3 ∷ 0 ∷ 0 ∷ 0 ∷ 3 ∷ 0 ∷ 0 ∷ 0 ∷ 5 ∷ 1 ∷ 1 ∷ [])) 24 ≡ passed
+unfolding meaning
+p3-inner = refl
+
+-- equal job numbers, 12 in edition 1 (d11-equal-jobs), do not pass the check
+p3-board : boardVerdict (2 ∷ 2 ∷ entry 1 2 2 ++ (entry 0 2 2 ++ (3 ∷ 3 ∷ 0 ∷ 0 ∷ []))) 16 ≡ blamed 9 0
+unfolding meaning
+p3-board = refl
+
+-- the listing says nothing of the edition
+p3-listing : listingText (2 ∷ 1 ∷ entry 1 2 2 ++ (3 ∷ 4 ∷ [])) ≡ text "columns 1\ncolumn 0 rising plan 1 count 2 bytes 2\n0 3\n1 4\nend\n"
+unfolding meaning
+p3-listing = refl
+
+-- writing: the edition that is asked for, with 10 by its kind; another is 11, before any plan
+p3-written : writeApart 2 (1 ∷ []) (replicate 15 0) (3 ∷ []) (5 ∷ 6 ∷ 134 ∷ []) 21 30
+    ≡ given (2 ∷ 1 ∷ 1 ∷ 17 ∷ 1 ∷ (replicate 13 0 ++ (3 ∷ 0 ∷ 0 ∷ 0 ∷ 4 ∷ 0 ∷ 0 ∷ 0 ∷ 5 ∷ 1 ∷ 128 ∷ 1 ∷ [])))
+unfolding meaning
+p3-written = refl
+
+p3-equal-written : writeApart 2 (1 ∷ []) (replicate 15 0) (3 ∷ []) (5 ∷ 5 ∷ 133 ∷ []) 21 30 ≡ refused 10
+unfolding meaning
+p3-equal-written = refl
+
+p3-edition-11 : writeApart 3 (0 ∷ []) (9 ∷ replicate 14 0) (1 ∷ []) (1 ∷ []) 7 99 ≡ refused 11
+unfolding meaning
+p3-edition-11 = refl
+
+p3-edition-0 : writeApart 0 [] [] [] [] 0 2 ≡ refused 11
+unfolding meaning
+p3-edition-0 = refl

@@ -28,12 +28,13 @@ abbrev pub Fills : Answer (List ℕ) → List ℕ → Answer ℕ → List ℕ �
 Fills m o says o′ = (says ≡ amount m) × (o′ ≡ filled m o)
 
 -- orders::write; `orderSays` takes the orders of the source over field by field
-abbrev pub Writes : List Order → List ℕ → List ℕ → List ℕ → Sized × List ℕ → Type 0
-Writes orders joined work o a = Fills (writeSheet orders joined (length work) (length o)) o (sizedSays (a .0)) (a .1)
+abbrev pub Writes : ℕ → List Order → List ℕ → List ℕ → List ℕ → Sized × List ℕ → Type 0
+Writes edition orders joined work o a = Fills (writeSheet edition orders joined (length work) (length o)) o (sizedSays (a .0)) (a .1)
 
 -- writer::write, on orders taken apart
-abbrev pub WritesApart : List ℕ → List ℕ → List ℕ → List ℕ → List ℕ → List ℕ → Sized × List ℕ → Type 0
-WritesApart kinds plans counts joined work o a = Fills (writeApart kinds plans counts joined (length work) (length o)) o (sizedSays (a .0)) (a .1)
+abbrev pub WritesApart : ℕ → List ℕ → List ℕ → List ℕ → List ℕ → List ℕ → List ℕ → Sized × List ℕ → Type 0
+WritesApart edition kinds plans counts joined work o a =
+    Fills (writeApart edition kinds plans counts joined (length work) (length o)) o (sizedSays (a .0)) (a .1)
 
 -- sheet::check
 abbrev pub Checks : List ℕ → List ℕ → Checked → Type 0

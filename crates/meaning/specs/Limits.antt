@@ -32,7 +32,11 @@ any = 0
 abbrev pub rising : ℕ
 rising = 1
 
--- sheet below 2 or above 65,536 bytes, byte 0 not 1, over 16 columns
+-- the newest edition; the first is 1
+abbrev pub lastEdition : ℕ
+lastEdition = 2
+
+-- sheet below 2 or above 65,536 bytes, byte 0 neither 1 nor 2, over 16 columns
 abbrev pub noSheet : ℕ
 noSheet = 1
 
@@ -68,11 +72,11 @@ shortWork = 8
 abbrev pub fault : ℕ
 fault = 9
 
--- writing: a list of kind 1 falls
+-- writing: a list is not of its kind
 abbrev pub fallen : ℕ
 fallen = 10
 
--- over 16 orders, kind above 1, count above 1,024, counts not summing to the joined slice
+-- another edition than 1 or 2, over 16 orders, kind above 1, count above 1,024, counts not summing to the joined slice
 abbrev pub badOrders : ℕ
 badOrders = 11
 

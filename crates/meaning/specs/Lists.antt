@@ -2,7 +2,7 @@
 use Prim.Native.Nat.{ℕ, _+_, max}
 use mathlib.Core.Bool.{Bool, true, not, _&&_}
 use mathlib.Core.List.{List, [], _∷_, _++_}
-use lib.Dec.{leb, eqb}
+use lib.Dec.{leb, ltb, eqb}
 
 unfoldable pub all : {A : Type 0} → (A → Bool) → List A → Bool
 all test [] = true
@@ -30,6 +30,10 @@ neighbours test (x ∷ y ∷ xs) = test x y && neighbours test (y ∷ xs)
 -- no number is below the one before
 unfoldable pub rises : List ℕ → Bool
 rises xs = neighbours leb xs
+
+-- each number is above the one before
+unfoldable pub strict : List ℕ → Bool
+strict xs = neighbours ltb xs
 
 -- neighbours differ
 unfoldable pub differ : List ℕ → Bool

@@ -12,9 +12,9 @@ use Rattle.meaning.specs.Lists.{all, sum, largest, differ}
 use Rattle.meaning.specs.Plan.{planOf, judgePlan, planUsed}
 use Rattle.meaning.specs.Stages.{look}
 use Rattle.meaning.specs.declared.Tally.{Tally}
-use Rattle.meaning.specs.Sheet.{ofKind, Listed, sheetBytes, Column, columnsOf, columnAt, sound, readColumn, checkColumn, largestCount}
+use Rattle.meaning.specs.Sheet.{isEdition, ofKind, Listed, sheetBytes, Column, columnsOf, columnAt, sound, readColumn, checkColumn, largestCount}
 
--- ---- write: orders with their kind, plan and count, and one slice with all lists joined
+-- ---- write: the edition to make, orders with their kind, plan and count, and one slice with all lists joined
 pub record Order : Type 0 where
   pub kind : ℕ
   pub plan : List ℕ
@@ -33,17 +33,19 @@ ordersHold orders numbers =
     && (all (λ o. leb (o .kind) rising && leb (o .count) mostNumbers) orders && eqb (sum (map (λ o. o .count) orders)) (length numbers))
 
 -- the sheet's bytes, where the work has so many numbers and the output so many bytes
-unfoldable pub writeListed : List Listed → ℕ → ℕ → Answer (List ℕ)
-writeListed columns work room =
+unfoldable pub writeListed : ℕ → List Listed → ℕ → ℕ → Answer (List ℕ)
+writeListed edition columns work room =
     after (inTurn (λ c. judgePlan (c .kind) (c .plan)) 0 columns)
-    (need (all (λ c. ofKind (c .kind) (c .numbers)) columns) fallen
+    (need (all (λ c. ofKind edition (c .kind) (c .numbers)) columns) fallen
     (need (leb (7 * largest (map (λ c. length (c .numbers)) columns)) work) shortWork
-    (need (leb (length (sheetBytes columns)) mostBytes && leb (length (sheetBytes columns)) room) noRoom
-    (given (sheetBytes columns)))))
+    (need (leb (length (sheetBytes edition columns)) mostBytes && leb (length (sheetBytes edition columns)) room) noRoom
+    (given (sheetBytes edition columns)))))
 
-unfoldable pub writeSheet : List Order → List ℕ → ℕ → ℕ → Answer (List ℕ)
-writeSheet orders numbers work room =
-    need (ordersHold orders numbers) badOrders (writeListed (listedBy orders numbers) work room)
+-- another edition than 1 or 2 is refused as orders that do not hold are
+unfoldable pub writeSheet : ℕ → List Order → List ℕ → ℕ → ℕ → Answer (List ℕ)
+writeSheet edition orders numbers work room =
+    need (isEdition edition) badOrders
+    (need (ordersHold orders numbers) badOrders (writeListed edition (listedBy orders numbers) work room))
 
 -- orders taken apart: a kind, 15 plan bytes and a count each
 unfoldable pub ordersOf : List ℕ → List ℕ → List ℕ → List Order
@@ -52,10 +54,10 @@ ordersOf (k ∷ kinds) plans counts =
     record { kind = k; plan = take planBytes plans; count = getD counts 0 0 } ∷ ordersOf kinds (drop planBytes plans) (drop 1 counts)
 
 -- slices that are not so long together are no orders
-unfoldable pub writeApart : List ℕ → List ℕ → List ℕ → List ℕ → ℕ → ℕ → Answer (List ℕ)
-writeApart kinds plans counts numbers work room =
+unfoldable pub writeApart : ℕ → List ℕ → List ℕ → List ℕ → List ℕ → ℕ → ℕ → Answer (List ℕ)
+writeApart edition kinds plans counts numbers work room =
     need (eqb (length plans) (planBytes * length kinds) && eqb (length counts) (length kinds)) badOrders
-    (writeSheet (ordersOf kinds plans counts) numbers work room)
+    (writeSheet edition (ordersOf kinds plans counts) numbers work room)
 
 -- ---- check: all columns in turn
 unfoldable pub check : List ℕ → ℕ → Verdict

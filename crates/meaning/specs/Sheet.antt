@@ -1,4 +1,4 @@
--- The sheet: table first, bodies after. Byte 0: edition 1. Byte 1: number of columns. One 24-byte entry a column: kind, 15 plan bytes, count
+-- The sheet: table first, bodies after. Byte 0: edition, 1 or 2. Byte 1: number of columns. One 24-byte entry a column: kind, 15 plan bytes, count
 -- (4 bytes), body length (4 bytes). The bodies, in column order, with nothing between or after.
 use Prim.Native.Nat.{ℕ, zero, suc, _+_, _*_}
 use mathlib.Core.Bool.{Bool, true, _&&_, cond}
@@ -6,15 +6,19 @@ use mathlib.Core.List.{List, [], _∷_, _++_, map}
 use lib.Dec.{leb, eqb}
 use lib.ListN.{length, getD, take, drop}
 use Rattle.meaning.specs.Answer.{Answer, given, bind, need, Verdict, _then_, ask, inTurn}
-use Rattle.meaning.specs.Limits.{mostColumns, mostNumbers, mostBytes, planBytes, rising, noSheet, badTable, fault}
-use Rattle.meaning.specs.Lists.{all, sum, joined, largest, rises}
+use Rattle.meaning.specs.Limits.{mostColumns, mostNumbers, mostBytes, planBytes, rising, lastEdition, noSheet, badTable, fault}
+use Rattle.meaning.specs.Lists.{all, sum, joined, largest, rises, strict}
 use Rattle.meaning.specs.Bytes.{word, wordAt}
 use Rattle.meaning.specs.Plan.{planOf, judgePlan, worstPlan}
 use Rattle.meaning.specs.Stages.{write, read}
 
--- a list of kind 1 rises
-unfoldable pub ofKind : ℕ → List ℕ → Bool
-ofKind kind xs = cond (eqb kind rising) (rises xs) true
+-- a sheet's edition is 1 or 2
+unfoldable pub isEdition : ℕ → Bool
+isEdition edition = leb 1 edition && leb edition lastEdition
+
+-- a list of kind 1: in edition 1 no number is below the one before, in edition 2 each is above the one before
+unfoldable pub ofKind : ℕ → ℕ → List ℕ → Bool
+ofKind edition kind xs = cond (eqb kind rising) (cond (eqb edition 1) (rises xs) (strict xs)) true
 
 -- ---- an entry of the table: kind, 15 plan bytes, count (4 bytes), body length (4 bytes). Its size and layout are the sheet's edition's
 pub record Entry : Type 0 where
@@ -45,8 +49,9 @@ abbrev pub entryIn : ℕ → List ℕ → Entry
 entryIn edition bytes =
     record { kind = getD bytes 0 0; plan = take planBytes (drop planIn bytes); count = wordAt bytes countIn; size = wordAt bytes sizeIn }
 
--- ---- a column: what its entry says, and its body
+-- ---- a column: its sheet's edition, what its entry says, and its body
 pub record Column : Type 0 where
+  pub edition : ℕ
   pub kind : ℕ
   pub plan : List ℕ
   pub count : ℕ
@@ -60,7 +65,7 @@ entryOf c = record { kind = c .kind; plan = c .plan; count = c .count; size = c 
 unfoldable pub assemble : ℕ → List Column → List ℕ
 assemble edition cs = edition ∷ length cs ∷ (joined (λ c. entryBytes edition (entryOf c)) cs ++ joined (λ c. c .body) cs)
 
--- ---- written: a column by its kind, the plan really used and its numbers
+-- ---- written: a column by its kind, the plan really used and its numbers; the edition is the sheet's
 pub record Listed : Type 0 where
   pub kind : ℕ
   pub plan : List ℕ
@@ -69,21 +74,22 @@ pub record Listed : Type 0 where
 abbrev pub bodyOf : Listed → List ℕ
 bodyOf l = write (planOf (l .plan)) (l .numbers)
 
-abbrev pub columnFor : Listed → Column
-columnFor l = record { kind = l .kind; plan = l .plan; count = length (l .numbers); size = length (bodyOf l); body = bodyOf l }
+abbrev pub columnFor : ℕ → Listed → Column
+columnFor edition l =
+    record { edition = edition; kind = l .kind; plan = l .plan; count = length (l .numbers); size = length (bodyOf l); body = bodyOf l }
 
-unfoldable pub sheetBytes : List Listed → List ℕ
-sheetBytes ls = assemble 1 (map columnFor ls)
+unfoldable pub sheetBytes : ℕ → List Listed → List ℕ
+sheetBytes edition ls = assemble edition (map (columnFor edition) ls)
 
 -- 2, 24 a column, the plans' sums
-unfoldable pub worstSheet : List Listed → ℕ
-worstSheet ls = 2 + sum (map (λ l. entrySize 1 + worstPlan (planOf (l .plan)) (length (l .numbers))) ls)
+unfoldable pub worstSheet : ℕ → List Listed → ℕ
+worstSheet edition ls = 2 + sum (map (λ l. entrySize edition + worstPlan (planOf (l .plan)) (length (l .numbers))) ls)
 
 -- ---- read: a column whose entry stands first in some bytes of the table and whose body stands first in some others
 abbrev pub columnIn : ℕ → List ℕ → List ℕ → Column
 columnIn edition table bodies =
     let e = entryIn edition table in
-    record { kind = e .kind; plan = e .plan; count = e .count; size = e .size; body = take (e .size) bodies }
+    record { edition = edition; kind = e .kind; plan = e .plan; count = e .count; size = e .size; body = take (e .size) bodies }
 
 unfoldable pub columnsIn : ℕ → ℕ → List ℕ → List ℕ → List Column
 columnsIn edition zero table bodies = []
@@ -104,16 +110,16 @@ unfoldable pub columnsOf : List ℕ → List Column
 columnsOf sheet = columnsIn (editionOf sheet) (columnCount sheet) (drop 2 sheet) (drop (tableSize sheet) sheet)
 
 abbrev pub columnAt : List ℕ → ℕ → Column
-columnAt sheet k = getD (columnsOf sheet) k (record { kind = 0; plan = []; count = 0; size = 0; body = [] })
+columnAt sheet k = getD (columnsOf sheet) k (record { edition = 0; kind = 0; plan = []; count = 0; size = 0; body = [] })
 
 -- where column k's body begins: after the table and the bodies before it
 abbrev pub bodyBegins : List ℕ → ℕ → ℕ
 bodyBegins sheet k = tableSize sheet + sum (map (λ c. c .size) (take k (columnsOf sheet)))
 
--- from 2 to 65,536 bytes, byte 0 is 1, at most 16 columns
+-- from 2 to 65,536 bytes, byte 0 is 1 or 2, at most 16 columns
 unfoldable pub isSheet : List ℕ → Bool
 isSheet sheet =
-    leb 2 (length sheet) && (leb (length sheet) mostBytes && (eqb (editionOf sheet) 1 && leb (columnCount sheet) mostColumns))
+    leb 2 (length sheet) && (leb (length sheet) mostBytes && (isEdition (editionOf sheet) && leb (columnCount sheet) mostColumns))
 
 -- the table is whole, kinds are at most 1, counts at most 1,024, and the body lengths fill the rest
 unfoldable pub tableHolds : List ℕ → Bool
@@ -129,9 +135,9 @@ sound sheet =
     then ask (tableHolds sheet) badTable
     then inTurn (λ c. judgePlan (c .kind) (c .plan)) 0 (columnsOf sheet)
 
--- reading a column applies all of its plan, and kind 1 must rise
+-- reading a column applies all of its plan, and last asks that the list is of the declared kind, by the sheet's edition
 unfoldable pub readColumn : Column → Answer (List ℕ)
-readColumn c = bind (read (planOf (c .plan)) (c .body) (c .count)) (λ xs. need (ofKind (c .kind) xs) fault (given xs))
+readColumn c = bind (read (planOf (c .plan)) (c .body) (c .count)) (λ xs. need (ofKind (c .edition) (c .kind) xs) fault (given xs))
 
 -- what the check asks of a column: that it can be read
 unfoldable pub checkColumn : Column → Answer (List ℕ)

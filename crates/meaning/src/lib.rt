@@ -13,14 +13,17 @@ pub const PLAN_BYTES: usize = 15;
 // Codes are numbered from 1 to this.
 pub const LAST_CODE: u8 = 7;
 
-// The kinds: any numbers, or none below the one before.
+// The kinds: any numbers, or rising ones, by the edition.
 pub const ANY: u8 = 0;
 
 pub const RISING: u8 = 1;
 
-// A sheet's first byte, and the bytes of its head and of an entry.
-pub const EDITION: u8 = 1;
+// A sheet's first byte is one of these.
+pub const FIRST_EDITION: u8 = 1;
 
+pub const LAST_EDITION: u8 = 2;
+
+// The bytes of a sheet's head and of an entry.
 pub const HEAD_SIZE: usize = 2;
 
 pub const ENTRY_SIZE: usize = 24;

@@ -11,8 +11,10 @@ use Rattle.meaning.specs.Answer.{Answer, need}
 use Rattle.meaning.specs.Contracts.{Fills}
 use Rattle.meaning.specs.Limits.{mostColumns, badOrders}
 use Rattle.meaning.specs.Operations.{Order as OrderMeant, ordersHold, listedBy, writeListed, writeSheet}
+use Rattle.meaning.specs.Sheet.{isEdition}
 use Rattle.meaning.specs.Says.{sizedSays}
 use Rattle.meaning.specs.declared.Sized.{Sized}
+use Rattle.meaning.proofs.Answers.{need-refused}
 use Rattle.meaning.proofs.Tests.{by-order}
 use Rattle.orders.specs.Orders.{orderSays}
 use Rattle.orders.specs.Gathering.{none, blank, fill, gathered, writeGathered}
@@ -48,30 +50,33 @@ module _ (orders : List Order) where
   unfolding gathered
   all-there h = rw (fewest h) (fill-takes (length orders) (omega arith) h ∙ take-length orders)
 
-  module _ (numbers : List ℕ) (work room : ℕ) where
+  module _ (edition : ℕ) (numbers : List ℕ) (work room : ℕ) where
     abbrev Written : Type 0
-    Written = writeGathered (gathered orders) numbers work room ≡ writeSheet (map orderSays orders) numbers work room
+    Written = writeGathered edition (gathered orders) numbers work room ≡ writeSheet edition (map orderSays orders) numbers work room
 
     -- the answer, by whether there are at most 16
     abbrev held : Bool → Answer (List ℕ)
-    held b = need b badOrders (writeSheet (map orderSays (take (gathered orders .n) (gathered orders .list))) numbers work room)
+    held b = need b badOrders (writeSheet edition (map orderSays (take (gathered orders .n) (gathered orders .list))) numbers work room)
 
     over : mostColumns < length orders → Written
     unfolding gathered writeSheet
     over h =
         ap held (lt-leb (length orders) mostColumns h)
-        ∙ sym (ap (λ (b : Bool). need b badOrders (writeListed (listedBy (map orderSays orders) numbers) work room))
-        (many (map orderSays orders) numbers (omega (arith, length-map orders orderSays))))
+        ∙ sym (ap (λ (b : Bool). need (isEdition edition) badOrders
+        (need b badOrders (writeListed edition (listedBy (map orderSays orders) numbers) work room)))
+        (many (map orderSays orders) numbers (omega (arith, length-map orders orderSays)))
+        ∙ need-refused (isEdition edition) badOrders)
 
     within : length orders ≤ mostColumns → Written
     unfolding gathered
     within h =
-        ap held (le-leb (length orders) mostColumns h) ∙ ap (λ (l : List Order). writeSheet (map orderSays l) numbers work room) (all-there h)
+        ap held (le-leb (length orders) mostColumns h) ∙ ap (λ (l : List Order). writeSheet edition (map orderSays l) numbers work room) (all-there h)
 
     -- the list is written by what is gathered of it
     pub gathered-writes : Written
     gathered-writes = by-order mostColumns (length orders) over within
 
-pub told : (orders : List Order) (numbers : List ℕ) (work : ℕ) (o : List ℕ) (r : Sized) (o′ : List ℕ)
-    → Told (writeGathered (gathered orders) numbers work (length o)) o r o′ → Told (writeSheet (map orderSays orders) numbers work (length o)) o r o′
-told orders numbers work o r o′ = subst (λ (a : Answer (List ℕ)). Told a o r o′) (gathered-writes orders numbers work (length o))
+pub told : (edition : ℕ) (orders : List Order) (numbers : List ℕ) (work : ℕ) (o : List ℕ) (r : Sized) (o′ : List ℕ)
+    → Told (writeGathered edition (gathered orders) numbers work (length o)) o r o′
+    → Told (writeSheet edition (map orderSays orders) numbers work (length o)) o r o′
+told edition orders numbers work o r o′ = subst (λ (a : Answer (List ℕ)). Told a o r o′) (gathered-writes orders edition numbers work (length o))

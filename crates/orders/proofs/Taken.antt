@@ -169,25 +169,25 @@ module _ {list : List Order} {n : ℕ} {kinds plans counts : List ℕ} {i : ℕ}
         (eq-eqb _ _ (plans-cut n (so .few)))
         (eq-eqb _ _ (counts-cut n (so .few)))
 
-    pub apart-writes : (numbers : List ℕ) (work room : ℕ)
-        → writeApart all-kinds all-plans all-counts numbers work room ≡ writeSheet (map orderSays (take n list)) numbers work room
+    pub apart-writes : (edition : ℕ) (numbers : List ℕ) (work room : ℕ)
+        → writeApart edition all-kinds all-plans all-counts numbers work room ≡ writeSheet edition (map orderSays (take n list)) numbers work room
     unfolding writeApart
-    apart-writes numbers work room =
-        ap (λ (b : Bool). need b badOrders (writeSheet (ordersOf all-kinds all-plans all-counts) numbers work room)) apart-long
-        ∙ ap (λ (l : List OrderMeant). writeSheet l numbers work room) apart-says
+    apart-writes edition numbers work room =
+        ap (λ (b : Bool). need b badOrders (writeSheet edition (ordersOf all-kinds all-plans all-counts) numbers work room)) apart-long
+        ∙ ap (λ (l : List OrderMeant). writeSheet edition l numbers work room) apart-says
 
 -- ---- what is told of gathered orders
-module _ (g : Gathered) (numbers : List ℕ) (work : ℕ) (o : List ℕ) where
+module _ (edition : ℕ) (g : Gathered) (numbers : List ℕ) (work : ℕ) (o : List ℕ) where
   -- the answer, by whether there are at most 16
   abbrev asked : Bool → Answer (List ℕ)
-  asked b = need b badOrders (writeSheet (map orderSays (take (g .n) (g .list))) numbers work (length o))
+  asked b = need b badOrders (writeSheet edition (map orderSays (take (g .n) (g .list))) numbers work (length o))
 
-  pub refuse-many : mostColumns < g .n → Told (writeGathered g numbers work (length o)) o (Refused badOrders) o
+  pub refuse-many : mostColumns < g .n → Told (writeGathered edition g numbers work (length o)) o (Refused badOrders) o
   refuse-many h = subst (λ (b : Bool). Told (asked b) o (Refused badOrders) o) (sym (lt-leb (g .n) mostColumns h)) (refl, refl)
 
   pub written : {kinds plans counts : List ℕ} {i : ℕ} → Apart (g .list) (g .n) kinds plans counts i → g .n ≤ i → (r : Sized) (o′ : List ℕ)
-      → Told (writeApart (take (g .n) kinds) (take (planBytes * g .n) plans) (take (g .n) counts) numbers work (length o)) o r o′
-      → Told (writeGathered g numbers work (length o)) o r o′
+      → Told (writeApart edition (take (g .n) kinds) (take (planBytes * g .n) plans) (take (g .n) counts) numbers work (length o)) o r o′
+      → Told (writeGathered edition g numbers work (length o)) o r o′
   written so h r o′ =
       subst (λ (a : Answer (List ℕ)). Told a o r o′)
-      (apart-writes so h numbers work (length o) ∙ ap asked (sym (le-leb (g .n) mostColumns (so .few))))
+      (apart-writes so h edition numbers work (length o) ∙ ap asked (sym (le-leb (g .n) mostColumns (so .few))))

@@ -11,15 +11,15 @@ use Rattle.orders.specs.Orders.{orderSays}
 use Rattle.orders.specs.declared.Order.{Order}
 use Rattle.orders.proofs.Gathers.{Told}
 
-pub one-write : (orders : List Order) (numbers : List ℕ) (work : ℕ) (o o′ o″ : List ℕ) (r r′ : Sized)
-    → Told (writeSheet (map orderSays orders) numbers work (length o)) o r o′
-    → Told (writeSheet (map orderSays orders) numbers work (length o)) o r′ o″
+pub one-write : (edition : ℕ) (orders : List Order) (numbers : List ℕ) (work : ℕ) (o o′ o″ : List ℕ) (r r′ : Sized)
+    → Told (writeSheet edition (map orderSays orders) numbers work (length o)) o r o′
+    → Told (writeSheet edition (map orderSays orders) numbers work (length o)) o r′ o″
     → (r ≡ r′) × (o′ ≡ o″)
-one-write orders numbers work o o′ o″ r r′ e f =
-    (one-sized r r′ (amount (writeSheet (map orderSays orders) numbers work (length o))) (e .0) (f .0), e .1 ∙ sym (f .1))
+one-write edition orders numbers work o o′ o″ r r′ e f =
+    (one-sized r r′ (amount (writeSheet edition (map orderSays orders) numbers work (length o))) (e .0) (f .0), e .1 ∙ sym (f .1))
 
-pub one-write-two : (a b : Order) (numbers : List ℕ) (work : ℕ) (o o′ o″ : List ℕ) (r r′ : Sized)
-    → Told (writeSheet (map orderSays (a ∷ b ∷ [])) numbers work (length o)) o r o′
-    → Told (writeSheet (map orderSays (a ∷ b ∷ [])) numbers work (length o)) o r′ o″
+pub one-write-two : (edition : ℕ) (a b : Order) (numbers : List ℕ) (work : ℕ) (o o′ o″ : List ℕ) (r r′ : Sized)
+    → Told (writeSheet edition (map orderSays (a ∷ b ∷ [])) numbers work (length o)) o r o′
+    → Told (writeSheet edition (map orderSays (a ∷ b ∷ [])) numbers work (length o)) o r′ o″
     → (r ≡ r′) × (o′ ≡ o″)
-one-write-two a b = one-write (a ∷ b ∷ [])
+one-write-two edition a b = one-write edition (a ∷ b ∷ [])

@@ -35,6 +35,6 @@ unfoldable pub gathered : List Order → Gathered
 gathered orders = record { list = fill orders (min (length orders) mostColumns); n = length orders }
 
 -- over 16 orders are 11; up to 16 are all there
-abbrev pub writeGathered : Gathered → List ℕ → ℕ → ℕ → Answer (List ℕ)
-writeGathered g numbers work room =
-    need (leb (g .n) mostColumns) badOrders (writeSheet (map orderSays (take (g .n) (g .list))) numbers work room)
+abbrev pub writeGathered : ℕ → Gathered → List ℕ → ℕ → ℕ → Answer (List ℕ)
+writeGathered edition g numbers work room =
+    need (leb (g .n) mostColumns) badOrders (writeSheet edition (map orderSays (take (g .n) (g .list))) numbers work room)

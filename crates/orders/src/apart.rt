@@ -28,8 +28,14 @@ fn put_plan(plan: [u8; 15], plans: &mut [u8], at: Offset)
 }
 
 // Writes a sheet by gathered orders: the writer is called with the orders taken apart.
-pub fn write_gathered(g: Gathered, joined: &[u32], work: &mut [u32], out: &mut [u8]) -> Sized
-    ensures { λ r. ⌜ Fills (writeGathered g (now (joined .entry)) (length (now (work .entry))) (length (now (out .entry)))) (now (out .entry))
+pub fn write_gathered(
+    edition: u8,
+    g: Gathered,
+    joined: &[u32],
+    work: &mut [u32],
+    out: &mut [u8],
+) -> Sized
+    ensures { λ r. ⌜ Fills (writeGathered edition g (now (joined .entry)) (length (now (work .entry))) (length (now (out .entry)))) (now (out .entry))
         (sizedSays r) (now (out .exit)) ⌝ }
 {
     let n = g.n;
@@ -50,5 +56,13 @@ pub fn write_gathered(g: Gathered, joined: &[u32], work: &mut [u32], out: &mut [
         i += 1;
     }
     let stop = PLAN_BYTES * n;
-    writer::write(&kinds[..n], &plans[..stop], &counts[..n], joined, work, out)
+    writer::write(
+        edition,
+        &kinds[..n],
+        &plans[..stop],
+        &counts[..n],
+        joined,
+        work,
+        out,
+    )
 }

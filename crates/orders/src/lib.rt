@@ -17,18 +17,31 @@ pub struct Order {
     pub count: u32,
 }
 
-// Writes a sheet at the start of an output, with work for 7 times the largest list. A refusal leaves the output as it was.
-pub fn write(orders: &[Order], joined: &[u32], work: &mut [u32], out: &mut [u8]) -> Sized
-    ensures { λ r. ⌜ Writes (map orderSays (now (orders .entry))) (now (joined .entry)) (now (work .entry)) (now (out .entry)) (r, now (out .exit)) ⌝ }
+// Writes a sheet of an edition at the start of an output, with work for 7 times the largest list. A refusal leaves the output as it was.
+pub fn write(
+    edition: u8,
+    orders: &[Order],
+    joined: &[u32],
+    work: &mut [u32],
+    out: &mut [u8],
+) -> Sized
+    ensures { λ r. ⌜ Writes edition (map orderSays (now (orders .entry))) (now (joined .entry)) (now (work .entry)) (now (out .entry)) (r, now (out .exit)) ⌝ }
 {
     let g = gather(orders);
-    write_gathered(g, joined, work, out)
+    write_gathered(edition, g, joined, work, out)
 }
 
 // Writes a sheet of two columns. Its parameters are plain, so whoever calls it needs no walk by hand.
-pub fn write_two(a: Order, b: Order, joined: &[u32], work: &mut [u32], out: &mut [u8]) -> Sized
-    ensures { λ r. ⌜ Writes (map orderSays (a ∷ b ∷ [])) (now (joined .entry)) (now (work .entry)) (now (out .entry)) (r, now (out .exit)) ⌝ }
+pub fn write_two(
+    edition: u8,
+    a: Order,
+    b: Order,
+    joined: &[u32],
+    work: &mut [u32],
+    out: &mut [u8],
+) -> Sized
+    ensures { λ r. ⌜ Writes edition (map orderSays (a ∷ b ∷ [])) (now (joined .entry)) (now (work .entry)) (now (out .entry)) (r, now (out .exit)) ⌝ }
 {
     let list = [a, b];
-    write(&list, joined, work, out)
+    write(edition, &list, joined, work, out)
 }

@@ -255,7 +255,7 @@ module _ {M : Type 1} {𝓤 : URA M} {H : Heap 𝓤} {A : Atoms 𝓤} (W : Given
           use1 W (later (some (λ (γ : GName). ‵ (MutRef (named 1) (ν ∷ []) u8 .own (told γ) (vptr l 0 ∷ [])) ⊛ Lender′ ν γ)))
           (lends-ref 𝓤 H A W u8 (named 1) (ν ∷ []) 0 l 0) $ await t tt $ pick t (λ γ. split t $
           -- [the reference; the lender's part; ν's token; κ's; what sheet owns; …]
-          move t (4 ∷ []) $ doubles t (named 0) κ u8 s (val s ∷ []) $ number t c c-fits $ move t (6 ∷ 5 ∷ 1 ∷ 0 ∷ 3 ∷ []) $
+          move t (4 ∷ []) $ doubles t (named 0) κ u8 s (val s ∷ []) $ number t w64 c c-fits $ move t (6 ∷ 5 ∷ 1 ∷ 0 ∷ 3 ∷ []) $
           asks W open′.ended (open′.clauses 𝓤 H A at-mem run) (κ, (ν ∷ [], tt)) (q, (fullShare, tt)) (args γ) at tt tt t
           fm known (id⊢ 𝓤 _) (os ν γ) (λ r ws. Opened r (ws .1 .1 .0)) (λ r ws. id⊢ 𝓤 _) (λ u r ws e is. fsplit t $ drop t $ fsplit t $ drop t $ fsplit t $
           -- [the number's last value; true; what the reader owns; κ's token; ν's; what sheet owns; the lender's part; …]

@@ -47,7 +47,7 @@ module _ (sheet : List ℕ) (e : Entry) where
 
 module _ {sheet : List ℕ} {k : ℕ} {e : Entry} (is : EntryIs sheet k e) where
   column-of : columnOf sheet e ≡ columnAt sheet k
-  column-of = λ i. record { kind = is .kind i; plan = is .plan i; count = is .count i; size = is .size i; body = is .body i }
+  column-of = λ i. record { edition = is .edition i; kind = is .kind i; plan = is .plan i; count = is .count i; size = is .size i; body = is .body i }
 
   -- what was read by the entry is column k's
   module _ {w w₁ : List ℕ} {q : Reading} (got : Got (readColumn (columnOf sheet e)) 0 w w₁ q) where

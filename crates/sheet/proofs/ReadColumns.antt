@@ -9,7 +9,7 @@ use Rattle.meaning.specs.Answer.{Answer, given, refused, bind, need}
 use Rattle.meaning.specs.Limits.{fault}
 use Rattle.meaning.specs.Places.{part, Below, Got}
 use Rattle.meaning.specs.Plan.{planOf}
-use Rattle.meaning.specs.Sheet.{Column, ofKind, readColumn}
+use Rattle.meaning.specs.Sheet.{Column, ofKind, editionOf, readColumn}
 use Rattle.meaning.specs.Stages.{read}
 use Rattle.meaning.specs.declared.Reading.{Reading}
 use Rattle.meaning.specs.declared.Reading.the-variants.{Whole, Refused}
@@ -21,9 +21,9 @@ use Rattle.sheet.specs.Opened.{columnOf}
 use Rattle.sheet.proofs.Entered.{planPart, bodyPart, of-column}
 use Rattle.codes.proofs.Numbered.{laws}
 
--- what is asked of a list that was read for a kind
-abbrev keep : ℕ → List ℕ → Answer (List ℕ)
-keep kind xs = need (ofKind kind xs) fault (given xs)
+-- what is asked of a list that was read for a kind, by the edition
+abbrev keep : ℕ → ℕ → List ℕ → Answer (List ℕ)
+keep edition kind xs = need (ofKind edition kind xs) fault (given xs)
 
 -- a list that stands in work where it is
 got-part : (w : List ℕ) (n : ℕ) → length (part w 0 n) ≡ n → Got (given (part w 0 n)) 0 w w (Whole n)
@@ -45,32 +45,39 @@ module _ (sheet : List ℕ) (e : Entry) {w w₁ : List ℕ} {q : Reading}
 
   pub column-stop : {z : ℕ} → q ≡ Refused z → Got (readColumn (columnOf sheet e)) 0 w w₁ (Refused z)
   unfolding readColumn
-  column-stop {z} t = got-stop all 0 w w₁ q so (keep (e .kind)) z t
+  column-stop {z} t = got-stop all 0 w w₁ q so (keep (editionOf sheet) (e .kind)) z t
 
   module _ {n : ℕ} (t : q ≡ Whole n) where
     pub column-room : 0 + n ≤ length w₁
     column-room = omega (arith, got-given all 0 w w₁ q so n t .1, length-take n w₁)
 
-    pub column-kept : true ≡ ofKind (e .kind) (part w₁ 0 n) → Got (readColumn (columnOf sheet e)) 0 w w₁ (Whole n)
-    unfolding readColumn
-    column-kept y =
-        let k : keep (e .kind) (part w₁ 0 n) ≡ given (part w₁ 0 n) = rw (← y) in
-        got-then all 0 w w₁ q so (keep (e .kind)) n t w₁ (Whole n)
-        (subst (λ (a : Answer (List ℕ)). Got a 0 w₁ w₁ (Whole n)) (sym k) (got-part w₁ n (got-given all 0 w w₁ q so n t .1)))
+    module _ {edition : ℕ} (known : edition ≡ editionOf sheet) where
+      pub column-kept : true ≡ ofKind edition (e .kind) (part w₁ 0 n) → Got (readColumn (columnOf sheet e)) 0 w w₁ (Whole n)
+      unfolding readColumn
+      column-kept y =
+          let k : keep (editionOf sheet) (e .kind) (part w₁ 0 n) ≡ given (part w₁ 0 n) = rw (← known, ← y) in
+          got-then all 0 w w₁ q so (keep (editionOf sheet) (e .kind)) n t w₁ (Whole n)
+          (subst (λ (a : Answer (List ℕ)). Got a 0 w₁ w₁ (Whole n)) (sym k) (got-part w₁ n (got-given all 0 w w₁ q so n t .1)))
 
-    pub column-other : false ≡ ofKind (e .kind) (part w₁ 0 n) → Got (readColumn (columnOf sheet e)) 0 w w₁ (Refused fault)
-    unfolding readColumn
-    column-other y =
-        got-then all 0 w w₁ q so (keep (e .kind)) n t w₁ (Refused fault)
-        (got-refused (keep (e .kind) (part w₁ 0 n)) 0 w₁ w₁ fault (rw (← y)) refl)
+      pub column-other : false ≡ ofKind edition (e .kind) (part w₁ 0 n) → Got (readColumn (columnOf sheet e)) 0 w w₁ (Refused fault)
+      unfolding readColumn
+      column-other y =
+          got-then all 0 w w₁ q so (keep (editionOf sheet) (e .kind)) n t w₁ (Refused fault)
+          (got-refused (keep (editionOf sheet) (e .kind) (part w₁ 0 n)) 0 w₁ w₁ fault (rw (← known, ← y)) refl)
 
--- a column that was read has as many numbers as its entry says
+-- a column that was read: its plan's reading, of the declared kind
+pub column-given : (c : Column) (xs : List ℕ) → readColumn c ≡ given xs
+    → (read (planOf (c .plan)) (c .body) (c .count) ≡ given xs) × (ofKind (c .edition) (c .kind) xs ≡ true)
+unfolding readColumn
+column-given c xs e =
+    let (ys, er, ek) = bind-given (read (planOf (c .plan)) (c .body) (c .count)) (keep (c .edition) (c .kind)) xs e in
+    let (o, g) = need-given (ofKind (c .edition) (c .kind) ys) fault (given ys) xs ek in
+    let same : ys ≡ xs = cc in
+    (er ∙ g, subst (λ (l : List ℕ). ofKind (c .edition) (c .kind) l ≡ true) same o)
+
+-- it has as many numbers as its entry says
 pub column-many : (c : Column) (xs : List ℕ) → Below 256 (c .body) → readColumn c ≡ given xs
     → (read (planOf (c .plan)) (c .body) (c .count) ≡ given xs) × (length xs ≡ c .count)
-unfolding readColumn
 column-many c xs b e =
-    let (ys, er, ek) = bind-given (read (planOf (c .plan)) (c .body) (c .count)) (keep (c .kind)) xs e in
-    let (o, g) = need-given (ofKind (c .kind) ys) fault (given ys) xs ek in
-    let same : ys ≡ xs = cc in
-    let r : read (planOf (c .plan)) (c .body) (c .count) ≡ given xs = er ∙ g in
+    let r = column-given c xs e .0 in
     (r, back laws (planOf (c .plan)) (c .body) (c .count) xs b r .1)

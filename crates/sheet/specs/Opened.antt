@@ -5,13 +5,14 @@ use mathlib.Core.List.{List}
 use lib.ListN.{length, take, drop}
 use Rattle.meaning.specs.Answer.{passed}
 use Rattle.meaning.specs.Limits.{planBytes, mostBytes, mostNumbers}
-use Rattle.meaning.specs.Sheet.{Column, sound, largestCount}
+use Rattle.meaning.specs.Sheet.{Column, editionOf, sound, largestCount}
 use Rattle.table.specs.declared.Entry.{Entry}
 
 -- the column that an entry names
 abbrev pub columnOf : List ℕ → Entry → Column
 columnOf sheet e =
     record {
+      edition = editionOf sheet;
       kind = e .kind;
       plan = take planBytes (drop (e .plan .byte) sheet);
       count = e .count;

@@ -6,11 +6,12 @@ use meaning::Reading;
 use plan_read::read_list;
 use stages::of_kind;
 use table::Entry;
+use table::entries::edition_of;
 ghost use Rattle.meaning.specs.Places.{Got};
 ghost use Rattle.meaning.specs.Sheet.{readColumn};
 ghost use Rattle.sheet.specs.Opened.{columnOf, Readable};
 
-// Reads a column into work from its first place on: all of its plan is applied, and its list must be of its kind.
+// Reads a column into work from its first place on: all of its plan is applied, and its list must be of the declared kind, by the sheet's edition.
 pub fn read_column(sheet: &[u8], entry: Entry, work: &mut [u32]) -> Reading
     requires { ⌜ Readable (now sheet) (now work) entry ⌝ }
     ensures { λ r. ⌜ Got (readColumn (columnOf (now (sheet .entry)) entry)) 0 (now (work .entry)) (now (work .exit)) r ⌝ }
@@ -25,7 +26,8 @@ pub fn read_column(sheet: &[u8], entry: Entry, work: &mut [u32]) -> Reading
     match got {
         Reading::Refused(e) => Reading::Refused(e),
         Reading::Whole(n) => {
-            let kept = of_kind(entry.kind, work, Place { number: 0 }, n);
+            let edition = edition_of(sheet);
+            let kept = of_kind(edition, entry.kind, work, Place { number: 0 }, n);
             if kept {
                 return Reading::Whole(n);
             }

@@ -1,4 +1,4 @@
--- Law (a): a plan that passes for a kind reads back every list of that kind. Assumes only the laws of the codes.
+-- Law (a): a plan that passes for a kind reads back every list of that kind, in either edition. Assumes only the laws of the codes.
 use Prim.Native.Nat.{ℕ, _-_, _≤_, _<_}
 use mathlib.Core.Path.{_≡_, sym, ap, _∙_}
 use mathlib.Core.Bool.{true}
@@ -19,7 +19,7 @@ use Rattle.meaning.specs.Stages.{least, lessBefore, runValues, runLengths, writ
 use Rattle.meaning.proofs.Lawful.{Lawful}
 use Rattle.meaning.proofs.Tests.{both-true}
 use Rattle.stages.proofs.Differences.{gaps-below, summed-gaps}
-use Rattle.stages.proofs.Lists.{kind-kept, kind-rises, kind-any}
+use Rattle.stages.proofs.Lists.{Serves, kind-serves}
 use Rattle.stages.proofs.Most.{less-length, gaps-length, worst-grows, plan-worst, most}
 use Rattle.stages.proofs.Reference.{least-below, less-below, less-rises, raised-least}
 use Rattle.stages.proofs.Runs.{runs-many, runs-few, runs-rise, run-values-below, run-lengths-below, unrolled-runs}
@@ -80,13 +80,17 @@ forth-runs p q xs l b i j =
     (words-split (length vs) (write p vs) (write q ls) (omega arith) b) few i (reads-as q (write q ls) ls (length vs) (runs-many xs) j)
     ∙ unrolled-runs xs
 
+-- of kind any, nothing is needed of a list
+any-serves : (xs : List ℕ) → Serves any xs
+any-serves xs t = let z : _≡_ {A = ℕ} 0 1 = cc in absurd (omega arith)
+
 module _ (laws : (c : ℕ) → Lawful (codeOf c)) where
   forth-code : (c : ℕ) (xs : List ℕ) → Below numberLimit xs → Reads (code c) xs
   unfolding read write
   forth-code c xs h = laws c .forth xs h
 
   -- the sizes are such that a body's length is a number
-  pub forth : (p : Plan) (kind : ℕ) (xs : List ℕ) → passes kind p ≡ true → ofKind kind xs ≡ true → Below numberLimit xs → length xs < numberLimit
+  pub forth : (p : Plan) (kind : ℕ) (xs : List ℕ) → passes kind p ≡ true → Serves kind xs → Below numberLimit xs → length xs < numberLimit
       → worstPlan p (length xs) < numberLimit → read p (write p xs) (length xs) ≡ given xs
   unfolding passes worstPlan
   forth bad kind xs s o h l w = let z : _≡_ {A = ℕ} 0 1 = cc in absurd (omega arith)
@@ -95,13 +99,13 @@ module _ (laws : (c : ℕ) → Lawful (codeOf c)) where
       let m = least xs in
       let n = less-length m xs in
       forth-reference p xs h
-      (forth p kind (lessBy m xs) s (kind-kept kind xs (lessBy m xs) (less-rises m xs) o) (less-below numberLimit m xs h) (omega arith)
+      (forth p kind (lessBy m xs) s (λ t. less-rises m xs (o t)) (less-below numberLimit m xs h) (omega arith)
       (omega (arith, ap (worstPlan p) n)))
   forth (differences p) kind xs s o h l w =
       let (k, t) = both-true (eqb kind rising) (passes any p) s in
       let n = gaps-length xs in
-      forth-differences p xs (kind-rises kind xs k o) h
-      (forth p any (lessBefore 0 xs) t (kind-any (lessBefore 0 xs)) (gaps-below numberLimit 0 xs h) (omega arith) (omega (arith, ap (worstPlan p) n)))
+      forth-differences p xs (o k) h
+      (forth p any (lessBefore 0 xs) t (any-serves (lessBefore 0 xs)) (gaps-below numberLimit 0 xs h) (omega arith) (omega (arith, ap (worstPlan p) n)))
   forth (runs p q) kind xs s o h l w =
       let (a, b) = both-true (passes kind p) (passes any q) s in
       let few = runs-few xs in
@@ -111,11 +115,12 @@ module _ (laws : (c : ℕ) → Lawful (codeOf c)) where
       let wp = worst-grows laws p (length (runValues xs)) (length xs) few in
       let wq = worst-grows laws q (length (runLengths xs)) (length xs) (omega arith) in
       forth-runs p q xs l (omega (arith, most laws p (runValues xs) hv (omega arith)))
-      (forth p kind (runValues xs) a (kind-kept kind xs (runValues xs) (runs-rise xs) o) hv (omega arith) (omega arith))
-      (forth q any (runLengths xs) b (kind-any (runLengths xs)) hl (omega arith) (omega arith))
+      (forth p kind (runValues xs) a (λ t. runs-rise xs (o t)) hv (omega arith) (omega arith))
+      (forth q any (runLengths xs) b (any-serves (runLengths xs)) hl (omega arith) (omega arith))
 
   -- a plan of 15 bytes is never stuck
-  pub forth-plan : (bytes : List ℕ) (kind : ℕ) (xs : List ℕ) → passes kind (planOf bytes) ≡ true → ofKind kind xs ≡ true → Below numberLimit xs
-      → length xs ≤ mostNumbers
+  pub forth-plan : (bytes : List ℕ) (edition kind : ℕ) (xs : List ℕ) → passes kind (planOf bytes) ≡ true → ofKind edition kind xs ≡ true
+      → Below numberLimit xs → length xs ≤ mostNumbers
       → read (planOf bytes) (write (planOf bytes) xs) (length xs) ≡ given xs
-  forth-plan bytes kind xs s o h l = forth (planOf bytes) kind xs s o h (omega arith) (omega (arith, plan-worst laws bytes (length xs)))
+  forth-plan bytes edition kind xs s o h l =
+      forth (planOf bytes) kind xs s (kind-serves edition kind xs o) h (omega arith) (omega (arith, plan-worst laws bytes (length xs)))

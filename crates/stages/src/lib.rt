@@ -7,6 +7,7 @@ use leaves::lesser;
 use leaves::long;
 use leaves::whole;
 use meaning::FAULT;
+use meaning::FIRST_EDITION;
 use meaning::Place;
 use meaning::RISING;
 use meaning::Reading;
@@ -16,7 +17,7 @@ ghost use Prim.Native.Nat.{ℕ, _+_, _-_, _*_, _^_, _≤_, _<_, min};
 ghost use lib.ListN.{length, replicate};
 ghost use lib.Seq.{sets};
 ghost use Rattle.meaning.specs.Limits.{mostNumbers, numberLimit};
-ghost use Rattle.meaning.specs.Lists.{rises, differ, sum};
+ghost use Rattle.meaning.specs.Lists.{rises, strict, differ, sum};
 ghost use Rattle.meaning.specs.Places.{part, Got};
 ghost use Rattle.meaning.specs.Sheet.{ofKind};
 ghost use Rattle.meaning.specs.Stages.{least, lessBefore, sumsFrom, raised, summed, unrolled};
@@ -41,7 +42,7 @@ fn less(a: u32, b: u32) -> u32
 }
 
 // Whether no number of a list is below the one before.
-pub fn rises_in(work: &[u32], from: Place, n: usize) -> bool
+fn rises_in(work: &[u32], from: Place, n: usize) -> bool
     requires { ⌜ from .number + n ≤ length (now work) ⌝ }
     ensures { λ r. ⌜ r ≡ rises (part (now (work .entry)) (from .number) n) ⌝ }
 {
@@ -62,15 +63,40 @@ pub fn rises_in(work: &[u32], from: Place, n: usize) -> bool
     true
 }
 
-// Whether a list is of its kind.
-pub fn of_kind(kind: u8, work: &[u32], from: Place, n: usize) -> bool
+// Whether each number of a list is above the one before.
+fn strict_in(work: &[u32], from: Place, n: usize) -> bool
     requires { ⌜ from .number + n ≤ length (now work) ⌝ }
-    ensures { λ r. ⌜ r ≡ ofKind kind (part (now (work .entry)) (from .number) n) ⌝ }
+    ensures { λ r. ⌜ r ≡ strict (part (now (work .entry)) (from .number) n) ⌝ }
 {
-    if kind == RISING {
-        return rises_in(work, from, n);
+    if n == 0 {
+        return true;
+    }
+    let first = from.number;
+    let mut v = work[first];
+    let mut i = 1;
+    while i < n {
+        let x = work[first + i];
+        if x <= v {
+            return false;
+        }
+        v = x;
+        i += 1;
     }
     true
+}
+
+// Whether a list is of its kind, by the edition.
+pub fn of_kind(edition: u8, kind: u8, work: &[u32], from: Place, n: usize) -> bool
+    requires { ⌜ from .number + n ≤ length (now work) ⌝ }
+    ensures { λ r. ⌜ r ≡ ofKind edition kind (part (now (work .entry)) (from .number) n) ⌝ }
+{
+    if kind != RISING {
+        return true;
+    }
+    if edition == FIRST_EDITION {
+        return rises_in(work, from, n);
+    }
+    strict_in(work, from, n)
 }
 
 // Whether the neighbours in a list differ.

@@ -80,8 +80,8 @@ fn show(sheet: &[u8]) {
     first_calls(sheet, 2);
 }
 
-// A sheet of two columns of three numbers: what was written, call by call, or the refusal and the output that it left.
-fn write_and_step(kind: u8, plan: [u8; 15], joined: &[u32], out: &mut [u8]) {
+// A sheet of an edition, of two columns of three numbers: what was written, call by call, or the refusal and the output that it left.
+fn write_and_step(edition: u8, kind: u8, plan: [u8; 15], joined: &[u32], out: &mut [u8]) {
     let mut work = [0u32; 21];
     let jobs = Order {
         kind,
@@ -93,7 +93,7 @@ fn write_and_step(kind: u8, plan: [u8; 15], joined: &[u32], out: &mut [u8]) {
         plan: plan_of(0, 0),
         count: 3,
     };
-    let answer = orders::write_two(jobs, endings, joined, &mut work, out);
+    let answer = orders::write_two(edition, jobs, endings, joined, &mut work, out);
     match answer {
         Sized::Refused(e) => {
             refused(e);
@@ -112,21 +112,24 @@ fn refused_writes() {
     let joined = [1000u32, 1002, 1300, 0, 256, 3];
     let falling = [1000u32, 999, 1300, 0, 256, 3];
     let short = [1000u32, 1002, 1300, 0, 256];
+    let equal = [1000u32, 1000, 1300, 0, 256, 3];
     let mut out = [7u8; 4];
-    write_and_step(2, plan_of(1, 0), &joined, &mut out);
-    write_and_step(1, plan_of(17, 1), &short, &mut out);
-    write_and_step(1, plan_of(9, 0), &joined, &mut out);
-    write_and_step(0, plan_of(17, 1), &joined, &mut out);
-    write_and_step(1, plan_of(0, 0), &falling, &mut out);
-    write_and_step(1, plan_of(17, 1), &joined, &mut out);
+    write_and_step(3, 1, plan_of(9, 0), &joined, &mut out);
+    write_and_step(1, 2, plan_of(1, 0), &joined, &mut out);
+    write_and_step(1, 1, plan_of(17, 1), &short, &mut out);
+    write_and_step(1, 1, plan_of(9, 0), &joined, &mut out);
+    write_and_step(1, 0, plan_of(17, 1), &joined, &mut out);
+    write_and_step(1, 1, plan_of(0, 0), &falling, &mut out);
+    write_and_step(2, 1, plan_of(0, 0), &equal, &mut out);
+    write_and_step(1, 1, plan_of(0, 0), &equal, &mut out);
 }
 
 fn main() {
     let joined = [1000u32, 1002, 1300, 0, 256, 3];
     let falling = [1000u32, 999, 1300, 0, 256, 3];
     let mut out = [0u8; 128];
-    write_and_step(1, plan_of(17, 4), &joined, &mut out);
-    write_and_step(0, plan_of(0, 0), &falling, &mut out);
+    write_and_step(1, 1, plan_of(17, 4), &joined, &mut out);
+    write_and_step(2, 0, plan_of(0, 0), &falling, &mut out);
     refused_writes();
     first_calls(b"not a sheet", 0);
 }

@@ -16,16 +16,14 @@ use Rattle.table.specs.Offsets.{blankColumn}
 use Rattle.table.proofs.Columns.{column-count}
 use Rattle.table.proofs.EntryFormat.{Sized, entry-long, entry-forth, entry-back, past-entry}
 
--- a column whose entry can be laid down and says how long its body is
-pub record Entered (c : Column) : Type 0 where
+-- a column of an edition whose entry can be laid down and says how long its body is
+pub record Entered (edition : ℕ) (c : Column) : Type 0 where
+  pub made : c .edition ≡ edition
   pub sized : Sized (entryOf c)
   pub whole : length (c .body) ≡ c .size
 
-abbrev pub AllEntered : List Column → Type 0
-AllEntered cs = (k : ℕ) → k < length cs → Entered (getD cs k blankColumn)
-
-later : (c : Column) (cs : List Column) → AllEntered (c ∷ cs) → AllEntered cs
-later c cs all k h = all (suc k) (omega arith)
+abbrev pub AllEntered : ℕ → List Column → Type 0
+AllEntered edition cs = (k : ℕ) → k < length cs → Entered edition (getD cs k blankColumn)
 
 -- all entries, and all bodies
 abbrev pub entriesOf : ℕ → List Column → List ℕ
@@ -36,8 +34,11 @@ bodiesOf cs = joined (λ c. c .body) cs
 
 -- ---- put together, and read
 module _ (edition : ℕ) where
+  later : (c : Column) (cs : List Column) → AllEntered edition (c ∷ cs) → AllEntered edition cs
+  later c cs all k h = all (suc k) (omega arith)
+
   -- one column before others
-  module _ (c : Column) (rest bodies : List ℕ) (is : Entered c) where
+  module _ (c : Column) (rest bodies : List ℕ) (is : Entered edition c) where
     abbrev table : List ℕ
     table = entryBytes edition (entryOf c) ++ rest
 
@@ -46,14 +47,15 @@ module _ (edition : ℕ) where
 
     column-in : columnIn edition table (c .body ++ bodies) ≡ c
     column-in =
-        ap (λ (e : Entry). record { kind = e .kind; plan = e .plan; count = e .count; size = e .size; body = take (e .size) (c .body ++ bodies) }) said
-        ∙ ap (λ (b : List ℕ). record { kind = c .kind; plan = c .plan; count = c .count; size = c .size; body = b })
-        (take-at (c .body) bodies (c .size) (is .whole))
+        ap (λ (e : Entry).
+        record { edition = edition; kind = e .kind; plan = e .plan; count = e .count; size = e .size; body = take (e .size) (c .body ++ bodies) }) said
+        ∙ ap₂ (λ (n : ℕ) (b : List ℕ). record { edition = n; kind = c .kind; plan = c .plan; count = c .count; size = c .size; body = b })
+        (sym (is .made)) (take-at (c .body) bodies (c .size) (is .whole))
 
     past-body : drop (entryIn edition table .size) (c .body ++ bodies) ≡ bodies
     past-body = ap (λ (e : Entry). drop (e .size) (c .body ++ bodies)) said ∙ drop-at (c .body) bodies (c .size) (is .whole)
 
-  columns-in : (cs : List Column) (rest : List ℕ) → AllEntered cs → columnsIn edition (length cs) (entriesOf edition cs ++ rest) (bodiesOf cs) ≡ cs
+  columns-in : (cs : List Column) (rest : List ℕ) → AllEntered edition cs → columnsIn edition (length cs) (entriesOf edition cs ++ rest) (bodiesOf cs) ≡ cs
   unfolding columnsIn joined
   columns-in [] rest all = refl
   columns-in (c ∷ cs) rest all =
@@ -65,7 +67,7 @@ module _ (edition : ℕ) where
       ∙ ap₂ (λ (d : Column) (ds : List Column). d ∷ ds) (column-in c more (bodiesOf cs) is)
       (ap₂ (columnsIn edition (length cs)) (past-entry edition (entryOf c) more (is .sized)) (past-body c more (bodiesOf cs) is) ∙ behind)
 
-  pub entries-long : (cs : List Column) → AllEntered cs → length (entriesOf edition cs) ≡ entrySize edition * length cs
+  pub entries-long : (cs : List Column) → AllEntered edition cs → length (entriesOf edition cs) ≡ entrySize edition * length cs
   unfolding joined
   entries-long [] all = sym (mul-zero (entrySize edition))
   entries-long (c ∷ cs) all =
@@ -76,7 +78,7 @@ module _ (edition : ℕ) where
         entries-long cs (later c cs all),
       )
 
-  module _ (cs : List Column) (all : AllEntered cs) where
+  module _ (cs : List Column) (all : AllEntered edition cs) where
     pub columns-forth : columnsOf (assemble edition cs) ≡ cs
     unfolding columnsOf assemble
     columns-forth =

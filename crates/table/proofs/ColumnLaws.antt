@@ -16,7 +16,7 @@ use Rattle.table.specs.Entries.{Here, EntryIs, Opened, ColumnIs}
 use Rattle.table.specs.declared.Entry.{Entry}
 use Rattle.table.specs.declared.Column.{Column as Told}
 use Rattle.table.specs.declared.Column.the-variants.{At, Refused}
-use Rattle.table.proofs.Columns.{column-count, plan-is, size-is, body-is, begins-so}
+use Rattle.table.proofs.Columns.{column-count, edition-is, plan-is, size-is, body-is, begins-so}
 use Rattle.table.proofs.Slots.{slot-within}
 use Rattle.table.proofs.Sounds.{sound-table, sound-column}
 
@@ -30,6 +30,7 @@ module _ {sheet : List ℕ} {k : ℕ} (here : Here sheet k) where
   entry-is kind plan count size body =
       let holds = sound-column sheet (here .sounds) k (here .exists) in
       record {
+        edition = sym (edition-is sheet k (here .exists));
         kind = kind;
         count = count;
         size = size;

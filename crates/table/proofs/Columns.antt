@@ -70,6 +70,9 @@ module _ (sheet : List ℕ) (k : ℕ) (h : k < columnCount sheet) where
   kind-is =
       ap (λ (c : Column). c .kind) column-is ∙ getD-drop (slotOf sheet k) sheet 0 0 ∙ ap (λ (j : ℕ). getD sheet j 0) (add-zero (slotOf sheet k))
 
+  pub edition-is : columnAt sheet k .edition ≡ editionOf sheet
+  edition-is = ap (λ (c : Column). c .edition) column-is
+
   pub plan-is : columnAt sheet k .plan ≡ take planBytes (drop (planOffset sheet k) sheet)
   plan-is = ap (λ (c : Column). c .plan) column-is ∙ ap (take planBytes) (drop-drop planIn (slotOf sheet k) sheet)
 

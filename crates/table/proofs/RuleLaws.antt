@@ -6,19 +6,29 @@ use mathlib.Core.List.{List, map}
 use native.Mathlib.Omega.{arith}
 use lib.Dec.{leb, eqb}
 use lib.ListN.{length, getD, take, drop}
-use borrow.Author.Tests.{le-leb, lt-leb, eq-eqb, ne-eqb, not-true, not-false}
+use borrow.Author.Tests.{le-leb, lt-leb, not-true, not-false}
 use Rattle.meaning.specs.Answer.{passed, blamed, inTurn}
-use Rattle.meaning.specs.Limits.{mostColumns, mostBytes, planBytes}
+use Rattle.meaning.specs.Limits.{mostColumns, mostBytes, planBytes, lastEdition}
 use Rattle.meaning.specs.Lists.{all, sum}
 use Rattle.meaning.specs.Plan.{judgePlan}
 use Rattle.meaning.specs.Says.{judgedSays}
-use Rattle.meaning.specs.Sheet.{tableSize, columnsOf, columnAt, isSheet, tableHolds, columnCount}
+use Rattle.meaning.specs.Sheet.{editionOf, tableSize, columnsOf, columnAt, isEdition, isSheet, tableHolds, columnCount}
 use Rattle.meaning.specs.declared.Judged.{Judged}
 use Rattle.meaning.specs.declared.Judged.the-variants.{Passed, Refused}
 use Rattle.table.specs.Offsets.{slotOf, planOffset, bodyOffset, blankColumn}
 use Rattle.table.specs.Rules.{entryHolds, planJudged}
 use Rattle.table.proofs.Columns.{plan-is, Counted, one-of-them, past-them, sizes-all}
 use Rattle.table.proofs.InTurn.{PassedBelow, below-turn, below-refuse, below-end}
+
+-- ---- whether there is such an edition
+module _ (edition : ℕ) where
+  pub too-early : edition < 1 → false ≡ isEdition edition
+  unfolding isEdition
+  too-early h = rw (lt-leb 1 edition h)
+
+  pub by-last : 1 ≤ edition → leb edition lastEdition ≡ isEdition edition
+  unfolding isEdition
+  by-last h = rw (le-leb 1 edition h)
 
 -- ---- whether it is a sheet
 module _ (sheet : List ℕ) where
@@ -32,13 +42,14 @@ module _ (sheet : List ℕ) where
     too-long h = rw (le-leb 2 (length sheet) least, lt-leb (length sheet) mostBytes h)
 
     module _ (most : length sheet ≤ mostBytes) where
-      pub other-edition : (getD sheet 0 0 ≡ 1 → ⊥) → false ≡ isSheet sheet
-      unfolding isSheet
-      other-edition h = rw (le-leb 2 (length sheet) least, le-leb (length sheet) mostBytes most, ne-eqb (getD sheet 0 0) 1 h)
+      module _ {t : Bool} (known : t ≡ isEdition (editionOf sheet)) where
+        pub other-edition : not t ≡ true → false ≡ isSheet sheet
+        unfolding isSheet
+        other-edition h = rw (le-leb 2 (length sheet) least, le-leb (length sheet) mostBytes most, ← known, not-true t h)
 
-      pub by-count : getD sheet 0 0 ≡ 1 → leb (getD sheet 1 0) mostColumns ≡ isSheet sheet
-      unfolding isSheet
-      by-count h = rw (le-leb 2 (length sheet) least, le-leb (length sheet) mostBytes most, eq-eqb (getD sheet 0 0) 1 h)
+        pub by-count : not t ≡ false → leb (getD sheet 1 0) mostColumns ≡ isSheet sheet
+        unfolding isSheet
+        by-count h = rw (le-leb 2 (length sheet) least, le-leb (length sheet) mostBytes most, ← known, not-false t h)
 
 -- ---- whether the table holds
 module _ (sheet : List ℕ) {columns : ℕ} (n : columns ≡ columnCount sheet) {b : ℕ} (is : b ≡ slotOf sheet columns) where

@@ -4,15 +4,15 @@ use mathlib.Core.Path.{_≡_, refl, sym, ap, _∙_}
 use mathlib.Core.Bool.{Bool, true, false}
 use mathlib.Core.List.{List, map}
 use native.Mathlib.Omega.{arith}
-use lib.Dec.{leb, eqb}
-use lib.ListN.{length, getD, drop, length-drop}
+use lib.Dec.{leb}
+use lib.ListN.{length, drop, length-drop}
 use lib.Seq.{length-take-le}
 use borrow.Author.Tests.{leb-true, eqb-true}
 use Rattle.meaning.specs.Answer.{given, Verdict, passed, blamed, _then_, ask, inTurn}
 use Rattle.meaning.specs.Limits.{mostColumns, mostNumbers, mostBytes, rising, noSheet, badTable, badPlan, unfitPlan}
 use Rattle.meaning.specs.Lists.{all, sum}
 use Rattle.meaning.specs.Plan.{planOf, wellFormed, passes, judgePlan}
-use Rattle.meaning.specs.Sheet.{tableSize, columnsOf, columnAt, isSheet, tableHolds, sound, columnCount}
+use Rattle.meaning.specs.Sheet.{editionOf, tableSize, columnsOf, columnAt, isEdition, isSheet, tableHolds, sound, columnCount}
 use Rattle.meaning.proofs.Answers.{need-given}
 use Rattle.meaning.proofs.Tests.{both-true}
 use Rattle.table.specs.Offsets.{sizeAt, sizesBefore, bodyOffset, blankColumn}
@@ -31,11 +31,11 @@ then-passed passed w p = (refl, p)
 then-passed (blamed e k) w p = absurd (not-passed e k p)
 
 -- ---- the sheet
--- from 2 to 65,536 bytes, byte 0 is 1, at most 16 columns
+-- from 2 to 65,536 bytes, byte 0 is 1 or 2, at most 16 columns
 pub record IsSheet (sheet : List ℕ) : Type 0 where
   pub least : 2 ≤ length sheet
   pub most : length sheet ≤ mostBytes
-  pub edition : getD sheet 0 0 ≡ 1
+  pub edition : isEdition (editionOf sheet) ≡ true
   pub few : columnCount sheet ≤ mostColumns
 
 -- the three tests that a sound sheet passes
@@ -56,11 +56,11 @@ module _ (sheet : List ℕ) where
   is-sheet e =
       let (a, e₁) = both-true (leb 2 (length sheet)) _ e in
       let (b, e₂) = both-true (leb (length sheet) mostBytes) _ e₁ in
-      let (c, d) = both-true (eqb (getD sheet 0 0) 1) (leb (columnCount sheet) mostColumns) e₂ in
+      let (c, d) = both-true (isEdition (editionOf sheet)) (leb (columnCount sheet) mostColumns) e₂ in
       record {
         least = leb-true 2 (length sheet) a;
         most = leb-true (length sheet) mostBytes b;
-        edition = eqb-true (getD sheet 0 0) 1 c;
+        edition = c;
         few = leb-true (columnCount sheet) mostColumns d;
       }
 

@@ -6,7 +6,7 @@ use lib.ListN.{length, take, drop}
 use Rattle.meaning.specs.Answer.{given, refused, passed}
 use Rattle.meaning.specs.Limits.{planBytes}
 use Rattle.meaning.specs.Operations.{column}
-use Rattle.meaning.specs.Sheet.{bodyBegins, columnAt, sound, columnCount}
+use Rattle.meaning.specs.Sheet.{bodyBegins, columnAt, sound, editionOf, columnCount}
 use Rattle.table.specs.Offsets.{planOffset}
 use Rattle.table.specs.declared.Entry.{Entry}
 use Rattle.table.specs.declared.Column.{Column}
@@ -19,6 +19,7 @@ pub record Here (sheet : List ℕ) (k : ℕ) : Type 0 where
 
 -- e is column k's entry: where its plan and body begin, and that they lie within the sheet
 pub record EntryIs (sheet : List ℕ) (k : ℕ) (e : Entry) : Type 0 where
+  pub edition : editionOf sheet ≡ columnAt sheet k .edition
   pub kind : e .kind ≡ columnAt sheet k .kind
   pub count : e .count ≡ columnAt sheet k .count
   pub size : e .size ≡ columnAt sheet k .size

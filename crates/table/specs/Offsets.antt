@@ -34,7 +34,7 @@ bodyOffset sheet k = tableSize sheet + sizesBefore sheet k
 
 -- what stands for a column that is not there
 abbrev pub blankColumn : Column
-blankColumn = record { kind = 0; plan = []; count = 0; size = 0; body = [] }
+blankColumn = record { edition = 0; kind = 0; plan = []; count = 0; size = 0; body = [] }
 
 -- column k by offsets of the sheet
 abbrev pub columnBy : List ℕ → ℕ → Column

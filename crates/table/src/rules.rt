@@ -7,8 +7,9 @@ use crate::entries::plan_start;
 use crate::entries::slot_of;
 use judge::judge_plan;
 use meaning::Checked;
-use meaning::EDITION;
+use meaning::FIRST_EDITION;
 use meaning::Judged;
+use meaning::LAST_EDITION;
 use meaning::MOST_BYTES;
 use meaning::PLAN_BYTES;
 ghost use mathlib.Core.Path.{_≡_};
@@ -17,13 +18,23 @@ ghost use Prim.Native.Nat.{_≤_};
 ghost use lib.ListN.{length};
 ghost use Rattle.meaning.specs.Answer.{inTurn};
 ghost use Rattle.meaning.specs.Says.{checkedSays};
-ghost use Rattle.meaning.specs.Sheet.{tableSize, columnsOf, isSheet, tableHolds};
+ghost use Rattle.meaning.specs.Sheet.{tableSize, columnsOf, isEdition, isSheet, tableHolds};
 ghost use Rattle.table.specs.Rules.{planJudged};
 
 // A sheet's columns.
 const MOST_COLUMNS: u8 = 16;
 
-// Whether it is a sheet: from 2 to 65,536 bytes, byte 0 is 1, at most 16 columns.
+// Whether there is such an edition: 1 or 2.
+pub fn is_edition(edition: u8) -> bool
+    ensures { λ r. ⌜ r ≡ isEdition edition ⌝ }
+{
+    if edition < FIRST_EDITION {
+        return false;
+    }
+    edition <= LAST_EDITION
+}
+
+// Whether it is a sheet: from 2 to 65,536 bytes, byte 0 an edition, at most 16 columns.
 pub fn is_sheet(sheet: &[u8]) -> bool
     ensures { λ r. ⌜ r ≡ isSheet (now (sheet .entry)) ⌝ }
 {
@@ -34,7 +45,8 @@ pub fn is_sheet(sheet: &[u8]) -> bool
     if MOST_BYTES < size {
         return false;
     }
-    if sheet[0] != EDITION {
+    let known = is_edition(sheet[0]);
+    if !known {
         return false;
     }
     sheet[1] <= MOST_COLUMNS

@@ -16,14 +16,14 @@ use Rattle.writer.specs.Orders.{Room, ColumnPut}
 module _ {plan w : List ℕ} {n slot at : ℕ} (room : Room plan (length w) n slot at)
     {w₁ o o₁ : List ℕ} {end : Offset} (body : Written (planOf plan) (take n w) n at w w₁ o o₁ end) where
   -- a body that ends past 65,536
-  pub put-over : {kind : ℕ} → mostBytes < end .byte → ColumnPut (record { kind = kind; plan = plan; numbers = take n w }) slot at o o₁ end
+  pub put-over : {edition kind : ℕ} → mostBytes < end .byte → ColumnPut edition (record { kind = kind; plan = plan; numbers = take n w }) slot at o o₁ end
   put-over b = record { ends = body .ends; laid = λ l. absurd (omega arith) }
 
   -- a body whose entry was put after it
-  pub put-whole : {kind count size : ℕ} {o₂ : List ℕ} → count ≡ n → size ≡ end .byte - at
-      → o₂ ≡ sets o₁ slot (entryBytes 1 (record { kind = kind; plan = plan; count = count; size = size }))
-      → ColumnPut (record { kind = kind; plan = plan; numbers = take n w }) slot at o o₂ end
-  put-whole {kind} {count} {size} ec es e =
+  pub put-whole : {edition kind count size : ℕ} {o₂ : List ℕ} → count ≡ n → size ≡ end .byte - at
+      → o₂ ≡ sets o₁ slot (entryBytes edition (record { kind = kind; plan = plan; count = count; size = size }))
+      → ColumnPut edition (record { kind = kind; plan = plan; numbers = take n w }) slot at o o₂ end
+  put-whole {edition} {kind} {count} {size} ec es e =
       let many : count ≡ length (take n w) = omega (arith, length-take-le n w (omega (arith, room .scratch))) in
       let long : size ≡ length (write (planOf plan) (take n w)) = omega (arith, body .ends) in
       record {
@@ -31,5 +31,5 @@ module _ {plan w : List ℕ} {n slot at : ℕ} (room : Room plan (length w) n sl
         laid = λ l.
             e
             ∙ ap₂ (λ (x y : List ℕ). sets x slot y) (body .bytes)
-            (ap₂ (λ (i j : ℕ). entryBytes 1 (record { kind = kind; plan = plan; count = i; size = j })) many long);
+            (ap₂ (λ (i j : ℕ). entryBytes edition (record { kind = kind; plan = plan; count = i; size = j })) many long);
       }

@@ -61,48 +61,51 @@ module _ {kinds plans : List ℕ} {k : ℕ} (so : JudgedBelow kinds plans k) whe
         z (judged-here r is counts numbers ∙ ap judgedSays e)))
 
 -- ---- lists: those below k are of their kinds, and the next begins at `from`
-pub record RisingBelow (kinds counts numbers : List ℕ) (from k : ℕ) : Type 0 where
+pub record RisingBelow (edition : ℕ) (kinds counts numbers : List ℕ) (from k : ℕ) : Type 0 where
   pub counted : length counts ≡ length kinds
   pub whole : sum counts ≡ length numbers
   pub starts : from ≡ listStart counts k
-  pub below : (plans : List ℕ) → HoldBelow listRises (columnsBy kinds plans counts numbers) k
+  pub below : (plans : List ℕ) → HoldBelow (listRises edition) (columnsBy kinds plans counts numbers) k
 
-abbrev pub AllRise : List ℕ → List ℕ → List ℕ → Bool → Type 0
-AllRise kinds counts numbers t = (plans : List ℕ) → t ≡ all listRises (columnsBy kinds plans counts numbers)
+abbrev pub AllRise : ℕ → List ℕ → List ℕ → List ℕ → Bool → Type 0
+AllRise edition kinds counts numbers t = (plans : List ℕ) → t ≡ all (listRises edition) (columnsBy kinds plans counts numbers)
 
-pub rising-start : {kinds counts numbers : List ℕ} → length counts ≡ length kinds → sum counts ≡ length numbers → RisingBelow kinds counts numbers 0 0
+pub rising-start : {edition : ℕ} {kinds counts numbers : List ℕ} → length counts ≡ length kinds → sum counts ≡ length numbers
+    → RisingBelow edition kinds counts numbers 0 0
 unfolding sum
 rising-start c w = record { counted = c; whole = w; starts = refl; below = λ plans. refl }
 
-module _ {kinds counts numbers : List ℕ} {from k : ℕ} (so : RisingBelow kinds counts numbers from k) where
-  pub rising-end : length kinds ≤ k → AllRise kinds counts numbers true
+module _ {edition : ℕ} {kinds counts numbers : List ℕ} {from k : ℕ} (so : RisingBelow edition kinds counts numbers from k) where
+  pub rising-end : length kinds ≤ k → AllRise edition kinds counts numbers true
   rising-end h plans =
-      sym (hold-end listRises (columnsBy kinds plans counts numbers) k (so .below plans) (omega (arith, column-count kinds plans counts numbers)))
+      sym (hold-end (listRises edition) (columnsBy kinds plans counts numbers) k (so .below plans) (omega (arith, column-count kinds plans counts numbers)))
 
   module _ (h : k < length kinds) {n : ℕ} (en : n ≡ getD counts k 0) where
     pub rising-within : from + n ≤ length numbers
     rising-within = omega (arith, so .starts, so .whole, list-within counts k (omega (arith, so .counted)))
 
-    module _ {t : Bool} (is : t ≡ ofKind (getD kinds k 0) (part numbers from n)) where
-      rises-here : (plans : List ℕ) → listRises (getD (columnsBy kinds plans counts numbers) k blankListed) ≡ t
+    module _ {t : Bool} (is : t ≡ ofKind edition (getD kinds k 0) (part numbers from n)) where
+      rises-here : (plans : List ℕ) → listRises edition (getD (columnsBy kinds plans counts numbers) k blankListed) ≡ t
       rises-here plans =
-          ap listRises (column-is kinds plans counts numbers k h)
-          ∙ ap₂ (λ (i j : ℕ). ofKind (getD kinds k 0) (part numbers i j)) (sym (so .starts)) (sym en)
+          ap (listRises edition) (column-is kinds plans counts numbers k h)
+          ∙ ap₂ (λ (i j : ℕ). ofKind edition (getD kinds k 0) (part numbers i j)) (sym (so .starts)) (sym en)
           ∙ sym is
 
       in-lists : (plans : List ℕ) → k < length (columnsBy kinds plans counts numbers)
       in-lists plans = omega (arith, column-count kinds plans counts numbers)
 
-      pub rising-fail : not t ≡ true → AllRise kinds counts numbers false
+      pub rising-fail : not t ≡ true → AllRise edition kinds counts numbers false
       rising-fail e plans =
-          sym (hold-fail listRises (columnsBy kinds plans counts numbers) blankListed k (so .below plans) (in-lists plans) (rises-here plans ∙ not-true t e))
+          sym (hold-fail (listRises edition) (columnsBy kinds plans counts numbers) blankListed k (so .below plans) (in-lists plans)
+          (rises-here plans ∙ not-true t e))
 
-      pub rising-turn : not t ≡ false → RisingBelow kinds counts numbers (from + n) (k + 1)
+      pub rising-turn : not t ≡ false → RisingBelow edition kinds counts numbers (from + n) (k + 1)
       rising-turn e =
           record {
             counted = so .counted;
             whole = so .whole;
             starts = omega (arith, so .starts, start-next counts k (omega (arith, so .counted)));
             below = λ plans.
-                hold-turn listRises (columnsBy kinds plans counts numbers) blankListed k (so .below plans) (in-lists plans) (rises-here plans ∙ not-false t e);
+                hold-turn (listRises edition) (columnsBy kinds plans counts numbers) blankListed k (so .below plans) (in-lists plans)
+                (rises-here plans ∙ not-false t e);
           }

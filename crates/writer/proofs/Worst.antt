@@ -13,7 +13,7 @@ use Rattle.meaning.specs.Lists.{all, sum, joined, largest}
 use Rattle.meaning.specs.Operations.{Order, listedBy, ordersHold, writeListed, writeSheet}
 use Rattle.meaning.specs.Places.{Below}
 use Rattle.meaning.specs.Plan.{planOf, wellFormed, judgePlan, worstPlan}
-use Rattle.meaning.specs.Sheet.{Listed, bodyOf, columnFor, entryOf, sheetBytes, worstSheet, entrySize}
+use Rattle.meaning.specs.Sheet.{isEdition, Listed, bodyOf, columnFor, entryOf, sheetBytes, worstSheet, entrySize}
 use Rattle.meaning.proofs.Answers.{need-given}
 use Rattle.meaning.proofs.Bounds.{below-nil, below-take, below-drop}
 use Rattle.meaning.proofs.Tests.{both-true}
@@ -55,52 +55,56 @@ listed-few (o ∷ os) numbers h zero =
 listed-few (o ∷ os) numbers h (suc k) = listed-few os (drop (o .count) numbers) (both-true (orderHolds o) (all orderHolds os) h .1) k
 
 -- what each column adds to the worst size
-abbrev worstColumn : Listed → ℕ
-worstColumn l = entrySize 1 + worstPlan (planOf (l .plan)) (length (l .numbers))
+abbrev worstColumn : ℕ → Listed → ℕ
+worstColumn edition l = entrySize edition + worstPlan (planOf (l .plan)) (length (l .numbers))
 
-columns-most : (ls : List Listed) → ((k : ℕ) → k < length ls → Fine (getD ls k blankListed))
-    → length (joined entryLaid ls) + length (joined bodyOf ls) ≤ sum (map worstColumn ls)
+columns-most : (edition : ℕ) (ls : List Listed) → ((k : ℕ) → k < length ls → Fine (getD ls k blankListed))
+    → length (joined (entryLaid edition) ls) + length (joined bodyOf ls) ≤ sum (map (worstColumn edition) ls)
 unfolding joined sum
-columns-most [] fine = omega arith
-columns-most (l ∷ ls) fine =
+columns-most edition [] fine = omega arith
+columns-most edition (l ∷ ls) fine =
     let f = fine 0 (omega arith) in
     omega (
       arith,
-      columns-most ls (λ (k : ℕ) (h : k < length ls). fine (suc k) (omega arith)),
-      length-append (entryLaid l) (joined entryLaid ls),
+      columns-most edition ls (λ (k : ℕ) (h : k < length ls). fine (suc k) (omega arith)),
+      length-append (entryLaid edition l) (joined (entryLaid edition) ls),
       length-append (bodyOf l) (joined bodyOf ls),
-      entry-long 1 (entryOf (columnFor l)) (f .planned),
+      entry-long edition (entryOf (columnFor edition l)) (f .planned),
       most laws (planOf (l .plan)) (l .numbers) (f .small) (f .few),
     )
 
-pub sheet-most : (ls : List Listed) → ((k : ℕ) → k < length ls → Fine (getD ls k blankListed)) → length (sheetBytes ls) ≤ worstSheet ls
+pub sheet-most : (edition : ℕ) (ls : List Listed) → ((k : ℕ) → k < length ls → Fine (getD ls k blankListed))
+    → length (sheetBytes edition ls) ≤ worstSheet edition ls
 unfolding worstSheet
-sheet-most ls fine = omega (arith, ap length (sheet-is ls), length-append (joined entryLaid ls) (joined bodyOf ls), columns-most ls fine)
+sheet-most edition ls fine =
+    omega (arith, ap length (sheet-is edition ls), length-append (joined (entryLaid edition) ls) (joined bodyOf ls), columns-most edition ls fine)
 
 -- orders that hold, whose plans are judged and whose lists are of their kinds, are written where work and output are long enough
-pub sheet-written : (orders : List Order) (numbers : List ℕ) (work room : ℕ) → Below numberLimit numbers → ordersHold orders numbers ≡ true
-    → inTurn listJudged 0 (listedBy orders numbers) ≡ passed → all listRises (listedBy orders numbers) ≡ true
+pub sheet-written : (edition : ℕ) (orders : List Order) (numbers : List ℕ) (work room : ℕ) → isEdition edition ≡ true → Below numberLimit numbers
+    → ordersHold orders numbers ≡ true
+    → inTurn listJudged 0 (listedBy orders numbers) ≡ passed → all (listRises edition) (listedBy orders numbers) ≡ true
     → 7 * largest (map (λ (c : Listed). length (c .numbers)) (listedBy orders numbers)) ≤ work
-    → worstSheet (listedBy orders numbers) ≤ mostBytes → worstSheet (listedBy orders numbers) ≤ room
-    → (writeSheet orders numbers work room ≡ given (sheetBytes (listedBy orders numbers)))
-    × (length (sheetBytes (listedBy orders numbers)) ≤ worstSheet (listedBy orders numbers))
+    → worstSheet edition (listedBy orders numbers) ≤ mostBytes → worstSheet edition (listedBy orders numbers) ≤ room
+    → (writeSheet edition orders numbers work room ≡ given (sheetBytes edition (listedBy orders numbers)))
+    × (length (sheetBytes edition (listedBy orders numbers)) ≤ worstSheet edition (listedBy orders numbers))
 unfolding ordersHold writeSheet writeListed
-sheet-written orders numbers work room small held judged rise enough short fits =
+sheet-written edition orders numbers work room known small held judged rise enough short fits =
     let ls = listedBy orders numbers in
     let few : all orderHolds orders ≡ true = both-true (all orderHolds orders) _ (both-true (leb (length orders) mostColumns) _ held .1) .0 in
-    let size : length (sheetBytes ls) ≤ worstSheet ls = sheet-most ls (λ (k : ℕ) (h : k < length ls).
+    let size : length (sheetBytes edition ls) ≤ worstSheet edition ls = sheet-most edition ls (λ (k : ℕ) (h : k < length ls).
     let (u, e) = each-passed listJudged ls blankListed 0 k judged h in
     record {
       planned = judged-long (getD ls k blankListed) u e;
       small = listed-small numberLimit (omega arith) orders numbers small k;
       few = omega (arith, listed-few orders numbers few k);
     }) in
-    (written ls work room held judged rise enough (omega arith) (omega arith), size)
+    (written ls work room known held judged rise enough (omega arith) (omega arith), size)
   where
-    written : (ls : List Listed) (work room : ℕ) → ordersHold orders numbers ≡ true → inTurn listJudged 0 ls ≡ passed → all listRises ls ≡ true
-        → 7 * largest (map (λ (c : Listed). length (c .numbers)) ls) ≤ work → length (sheetBytes ls) ≤ mostBytes → length (sheetBytes ls) ≤ room
-        → need (ordersHold orders numbers) 11 (writeListed ls work room) ≡ given (sheetBytes ls)
-    written ls work room held judged rise enough short fits =
+    written : (ls : List Listed) (work room : ℕ) → isEdition edition ≡ true → ordersHold orders numbers ≡ true
+        → inTurn listJudged 0 ls ≡ passed → all (listRises edition) ls ≡ true
+        → 7 * largest (map (λ (c : Listed). length (c .numbers)) ls) ≤ work → length (sheetBytes edition ls) ≤ mostBytes → length (sheetBytes edition ls) ≤ room
+        → need (isEdition edition) 11 (need (ordersHold orders numbers) 11 (writeListed edition ls work room)) ≡ given (sheetBytes edition ls)
+    written ls work room known held judged rise enough short fits =
         let most = largest (map (λ (c : Listed). length (c .numbers)) ls) in
-        let size = length (sheetBytes ls) in
-        rw (held, judged, rise, le-leb (7 * most) work enough, le-leb size mostBytes short, le-leb size room fits)
+        let size = length (sheetBytes edition ls) in
+        rw (known, held, judged, rise, le-leb (7 * most) work enough, le-leb size mostBytes short, le-leb size room fits)

@@ -50,8 +50,8 @@ listJudged c = judgePlan (c .kind) (c .plan)
 abbrev pub verdictTold : Verdict → Answer (Unit {0})
 verdictTold v = after v (given tt)
 
-abbrev pub listRises : Listed → Bool
-listRises c = ofKind (c .kind) (c .numbers)
+abbrev pub listRises : ℕ → Listed → Bool
+listRises edition c = ofKind edition (c .kind) (c .numbers)
 
 -- the slices are as long together as orders are
 abbrev pub longTogether : List ℕ → List ℕ → List ℕ → Bool
@@ -82,11 +82,11 @@ pub record Room (plan : List ℕ) (work n slot at : ℕ) : Type 0 where
   pub low : slot ≤ mostBytes
   pub below : at ≤ mostBytes
 
--- a column's entry as it is laid down
-abbrev pub entryLaid : Listed → List ℕ
-entryLaid l = entryBytes 1 (entryOf (columnFor l))
+-- a column's entry as it is laid down in a sheet of an edition
+abbrev pub entryLaid : ℕ → Listed → List ℕ
+entryLaid edition l = entryBytes edition (entryOf (columnFor edition l))
 
 -- a column's body laid at an offset and its entry in a slot, as far as they lie within the output; where the body ends past 65,536 no more is said
-pub record ColumnPut (l : Listed) (slot at : ℕ) (o o′ : List ℕ) (r : Offset) : Type 0 where
+pub record ColumnPut (edition : ℕ) (l : Listed) (slot at : ℕ) (o o′ : List ℕ) (r : Offset) : Type 0 where
   pub ends : r .byte ≡ at + length (bodyOf l)
-  pub laid : r .byte ≤ mostBytes → o′ ≡ sets (sets o at (bodyOf l)) slot (entryLaid l)
+  pub laid : r .byte ≤ mostBytes → o′ ≡ sets (sets o at (bodyOf l)) slot (entryLaid edition l)

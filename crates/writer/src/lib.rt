@@ -12,14 +12,16 @@ use meaning::MOST_BYTES;
 use meaning::NO_ROOM;
 use meaning::SHORT_WORK;
 use meaning::Sized;
+use table::rules::is_edition;
 ghost use Rattle.meaning.specs.Contracts.{WritesApart};
 
 mod plans;
 mod sheets;
 mod slices;
 
-// Writes a sheet at the start of an output, with work for 7 times the largest list. A refusal leaves the output as it was.
+// Writes a sheet of an edition at the start of an output, with work for 7 times the largest list. A refusal leaves the output as it was.
 pub fn write(
+    edition: u8,
     kinds: &[u8],
     plans: &[u8],
     counts: &[u32],
@@ -27,9 +29,13 @@ pub fn write(
     work: &mut [u32],
     out: &mut [u8],
 ) -> Sized
-    ensures { λ r. ⌜ WritesApart (now (kinds .entry)) (now (plans .entry)) (now (counts .entry)) (now (joined .entry)) (now (work .entry))
+    ensures { λ r. ⌜ WritesApart edition (now (kinds .entry)) (now (plans .entry)) (now (counts .entry)) (now (joined .entry)) (now (work .entry))
         (now (out .entry)) (r, now (out .exit)) ⌝ }
 {
+    let known = is_edition(edition);
+    if !known {
+        return Sized::Refused(BAD_ORDERS);
+    }
     let held = orders_hold(kinds, plans, counts, joined);
     if !held {
         return Sized::Refused(BAD_ORDERS);
@@ -38,7 +44,7 @@ pub fn write(
     if let Judged::Refused(e) = judged {
         return Sized::Refused(e);
     }
-    let rise = lists_rise(kinds, counts, joined);
+    let rise = lists_rise(edition, kinds, counts, joined);
     if !rise {
         return Sized::Refused(FALLS);
     }
@@ -47,13 +53,13 @@ pub fn write(
         return Sized::Refused(SHORT_WORK);
     }
     let mut spare = [0u8; 1];
-    let size = put_sheet(kinds, plans, counts, joined, work, &mut spare);
+    let size = put_sheet(edition, kinds, plans, counts, joined, work, &mut spare);
     if MOST_BYTES < size {
         return Sized::Refused(NO_ROOM);
     }
     if out.len() < size {
         return Sized::Refused(NO_ROOM);
     }
-    let end = put_sheet(kinds, plans, counts, joined, work, out);
+    let end = put_sheet(edition, kinds, plans, counts, joined, work, out);
     Sized::Bytes(end)
 }

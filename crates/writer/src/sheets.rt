@@ -5,7 +5,6 @@ use leaves::byte_of;
 use leaves::put;
 use leaves::whole;
 use leaves::word_of;
-use meaning::EDITION;
 use meaning::MOST_BYTES;
 use meaning::Offset;
 use meaning::PLAN_BYTES;
@@ -25,11 +24,11 @@ ghost use Rattle.meaning.specs.Limits.{mostBytes, planBytes};
 ghost use Rattle.meaning.specs.Sheet.{entryBytes, sheetBytes};
 ghost use Rattle.writer.specs.Orders.{columnsBy, Ordered, Laid, Room, ColumnPut};
 
-// A column's entry is put at an offset.
-fn put_entry(out: &mut [u8], at: Offset, kind: u8, plan: &[u8], count: u32, size: u32)
+// A column's entry, as the edition has it, is put at an offset.
+fn put_entry(edition: u8, out: &mut [u8], at: Offset, kind: u8, plan: &[u8], count: u32, size: u32)
     requires { ⌜ (at .byte ≤ mostBytes) × (length (now plan) ≡ planBytes) ⌝ }
     ensures { λ _. ⌜ now (out .exit) ≡ sets (now (out .entry)) (at .byte)
-        (entryBytes 1 (record { kind = kind; plan = now (plan .entry); count = count; size = size })) ⌝ }
+        (entryBytes edition (record { kind = kind; plan = now (plan .entry); count = count; size = size })) ⌝ }
 {
     let start = at.byte;
     put(out, at, kind);
@@ -61,6 +60,7 @@ fn put_entry(out: &mut [u8], at: Offset, kind: u8, plan: &[u8], count: u32, size
 // Puts the column whose list of n numbers stands at the start of work: its body at an offset, and its entry in a slot of the table. Answers where the
 // body ends; an entry whose body ends past 65,536 is not put.
 pub fn put_column(
+    edition: u8,
     kind: u8,
     plan: &[u8],
     work: &mut [u32],
@@ -70,7 +70,7 @@ pub fn put_column(
     at: Offset,
 ) -> Offset
     requires { ⌜ Room (now plan) (length (now work)) n (slot .byte) (at .byte) ⌝ }
-    ensures { λ r. ⌜ ColumnPut (record { kind = kind; plan = now (plan .entry); numbers = take n (now (work .entry)) }) (slot .byte) (at .byte)
+    ensures { λ r. ⌜ ColumnPut edition (record { kind = kind; plan = now (plan .entry); numbers = take n (now (work .entry)) }) (slot .byte) (at .byte)
         (now (out .entry)) (now (out .exit)) r ⌝ }
 {
     let end = write_list(plan, work, n, out, at);
@@ -78,12 +78,13 @@ pub fn put_column(
         return end;
     }
     let size = end.byte - at.byte;
-    put_entry(out, slot, kind, plan, word_of(n), word_of(size));
+    put_entry(edition, out, slot, kind, plan, word_of(n), word_of(size));
     end
 }
 
-// Lays a sheet down from the start of an output on, as far as it lies within. Answers its size; one above 65,536 ends the pass.
+// Lays a sheet of an edition down from the start of an output on, as far as it lies within. Answers its size; one above 65,536 ends the pass.
 pub fn put_sheet(
+    edition: u8,
     kinds: &[u8],
     plans: &[u8],
     counts: &[u32],
@@ -92,13 +93,13 @@ pub fn put_sheet(
     out: &mut [u8],
 ) -> usize
     requires { ⌜ Ordered (now kinds) (now plans) (now counts) (now joined) × ((k : ℕ) → 7 * getD (now counts) k 0 ≤ length (now work)) ⌝ }
-    ensures { λ r. ⌜ Laid (sheetBytes (columnsBy (now (kinds .entry)) (now (plans .entry)) (now (counts .entry)) (now (joined .entry))))
+    ensures { λ r. ⌜ Laid (sheetBytes edition (columnsBy (now (kinds .entry)) (now (plans .entry)) (now (counts .entry)) (now (joined .entry))))
         (now (out .entry)) (now (out .exit)) r ⌝ }
 {
     let n = kinds.len();
-    put(out, Offset { byte: 0 }, EDITION);
+    put(out, Offset { byte: 0 }, edition);
     put(out, Offset { byte: 1 }, byte_of(n));
-    let mut at = entry_start(EDITION, n);
+    let mut at = entry_start(edition, n);
     let mut from: usize = 0;
     let mut k: usize = 0;
     while k < n {
@@ -107,8 +108,8 @@ pub fn put_sheet(
         let first = PLAN_BYTES * k;
         let plan = used_plan(kind, plans, Offset { byte: first });
         copy_list(joined, Place { number: from }, many, work);
-        let slot = entry_start(EDITION, k);
-        at = put_column(kind, &plan, work, many, out, slot, at);
+        let slot = entry_start(edition, k);
+        at = put_column(edition, kind, &plan, work, many, out, slot, at);
         if MOST_BYTES < at.byte {
             return at.byte;
         }

@@ -112,16 +112,16 @@ pub fn judge_orders(kinds: &[u8], plans: &[u8]) -> Judged
     Judged::Passed
 }
 
-// Whether every list is of its kind.
-pub fn lists_rise(kinds: &[u8], counts: &[u32], joined: &[u32]) -> bool
+// Whether every list is of its kind, by the edition.
+pub fn lists_rise(edition: u8, kinds: &[u8], counts: &[u32], joined: &[u32]) -> bool
     requires { ⌜ (length (now counts) ≡ length (now kinds)) × (sum (now counts) ≡ length (now joined)) ⌝ }
-    ensures { λ r. ⌜ ((plans : List ℕ) → r ≡ all listRises (columnsBy (now (kinds .entry)) plans (now (counts .entry)) (now (joined .entry)))) ⌝ }
+    ensures { λ r. ⌜ ((plans : List ℕ) → r ≡ all (listRises edition) (columnsBy (now (kinds .entry)) plans (now (counts .entry)) (now (joined .entry)))) ⌝ }
 {
     let mut from: usize = 0;
     let mut k: usize = 0;
     while k < kinds.len() {
         let n = whole(counts[k]);
-        let rises = of_kind(kinds[k], joined, Place { number: from }, n);
+        let rises = of_kind(edition, kinds[k], joined, Place { number: from }, n);
         if !rises {
             return false;
         }

@@ -188,7 +188,7 @@ module _ {M : Type 1} (𝓤 : URA M) (H : Heap 𝓤) (A : Atoms 𝓤) (W : Given
             forget ! 10 refl $ forget ! 11 refl $ forget ! 12 refl $ forget ! 15 refl $
             freed ! 12 15 refl $ freed ! 11 14 refl $ freed ! 10 13 refl $ freed ! 9 12 refl $ freed ! 7 11 refl $ freed ! 0 10 refl $ freed ! 6 9 refl $
             freed ! 1 8 refl $ freed ! 5 7 refl $ freed ! 5 6 refl $ freed ! 2 5 refl $ freed ! 1 4 refl $ freed ! 1 3 refl $ freed ! 2 2 refl $ free0 ! $
-            owned ! E.the-row (Is E.the-row) (EL.makes E.the-type E′.the-plain 𝓤 H A) x _ isx $ number ! k k-fits $ number ! c c-fits $
+            owned ! E.the-row (Is E.the-row) (EL.makes E.the-type E′.the-plain 𝓤 H A) x _ isx $ number ! w64 k k-fits $ number ! w64 c c-fits $
             keep ! (3 ∷ 4 ∷ 0 ∷ 1 ∷ 2 ∷ []) $
             ends W nth-call.ended clauses (κ, tt) (q, tt) args at tt tt stayed ! (foundVal x) x (tt, (tt, (tt, tt))) (tt, (tt, (tt, tt))) $
             says ! (tells (now s) c k r e i at-m x ex) $ done !)
@@ -226,7 +226,7 @@ module _ {M : Type 1} (𝓤 : URA M) (H : Heap 𝓤) (A : Atoms 𝓤) (W : Given
           three ! (read ! 26 refl) (read ! 24 refl) (read ! 11 refl)) (λ r e is.
           gets ! (init ! 14 refl (reader-lawful W κ .typed r _ is .0)) $
           sets ! (of-opd ! (read ! 14 refl)) (init ! 20 refl (reader-lawful W κ .typed r _ is .0)) $
-          move ! (20 ∷ 0 ∷ []) $ use2 W (‵ (Lies κ l₅ r)) (comes-in W κ l₅ r (T′.lowered r)) $ number ! k k-fits $
+          move ! (20 ∷ 0 ∷ []) $ use2 W (‵ (Lies κ l₅ r)) (comes-in W κ l₅ r (T′.lowered r)) $ number ! w64 k k-fits $
           -- [k's; the reader; the token; what sheet owns; room for _4; _13; …; _6; …; that _5 dies; that _4 dies; _3; …; _2; …; _1; …; room for _0; …]
           asks W before.ended (before.clauses 𝓤 H A mem run) tt tt (k, tt) (vint w64 k ∷ [], tt) tt tt ! fm known-before (id⊢ 𝓤 _)
           (one ! (read ! 23 refl)) (λ n ws. n ≡ m) (λ n ws. id⊢ 𝓤 _) (λ u n ws en isn. drop ! $ drop ! $

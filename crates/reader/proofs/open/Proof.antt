@@ -153,9 +153,9 @@ module _ {M : Type 1} (𝓤 : URA M) (H : Heap 𝓤) (A : Atoms 𝓤) (W : Given
         all-gone ! (18 ∷ 16 ∷ 14 ∷ 12 ∷ 10 ∷ 8 ∷ 6 ∷ []) _ refl $ free0 ! $
         -- what the part owns is, with the facts of the column and the place, what the struct owns
         move ! (2 ∷ []) $ nothing ! $ owned ! P.the-row (Is P.the-row) (LL.makes P.the-type P′.the-plain 𝓤 H A) start _ start-is $ fjoin ! $
-        number ! c c-fits $ fjoin ! $ move ! (1 ∷ 0 ∷ []) $ fjoin ! $
+        number ! w64 c c-fits $ fjoin ! $ move ! (1 ∷ 0 ∷ []) $ fjoin ! $
         use1 W (‵ (T.the-row α .own (made r) (T′.lowered (made r) ∷ []))) (own-shut 𝓤 H A W D L (r, (c, (start, tt)))) $
-        number ! c c-fits $ keep ! (4 ∷ 5 ∷ 6 ∷ 0 ∷ 2 ∷ 1 ∷ []) $
+        number ! w64 c c-fits $ keep ! (4 ∷ 5 ∷ 6 ∷ 0 ∷ 2 ∷ 1 ∷ []) $
         ends W open′.ended clauses κs qs args at tt tt stayed ! (T′.lowered (made r)) (made r) (tt, (tt, (zs .1 .1 .0, tt))) (tt, (tt, (tt, tt))) $
         says ! (stands r (zs .1 .1 .0) e, e .1) $ done !))))))
 

@@ -201,7 +201,7 @@ module _ {M : Type 1} (𝓤 : URA M) (H : Heap 𝓤) (A : Atoms 𝓤) (W : Given
         (init ! 5 refl (place-lawful W .typed (h .place) _ (place-is was) .0)) $
         move ! (1 ∷ []) $ use1 W (‵ OwnS ⊛ ‵ Own) apart $ split ! $
         owned ! P.the-row (Is P.the-row) (LL.makes P.the-type P′.the-plain 𝓤 H A) (h .place) _ (place-is was) $
-        number ! (h .column) (column-fits was) $ move ! (20 ∷ 2 ∷ 0 ∷ 1 ∷ []) $
+        number ! w64 (h .column) (column-fits was) $ move ! (20 ∷ 2 ∷ 0 ∷ 1 ∷ []) $
         -- [κ′'s token; what sheet owns; column's; place's; what the Reader owns; its cell; the open borrow; obs; auth; _5; …; _0; …]
         asks W look-on.ended (look-on.clauses 𝓤 H A at-mem run) (κ′, tt) (q′, tt) (h .sheet, (h .column, (h .place, tt)))
         (val (h .sheet) ∷ [], (vint w64 (h .column) ∷ [], (vp ∷ [], tt))) tt tt ! (fmOf 𝓤 H (W .laws) 𝓣) known (id⊢ 𝓤 _)

@@ -11,11 +11,11 @@ use Rattle.orders.proofs.apart.write_gathered.Statement.{statement}
 use Rattle.orders.proofs.apart.write_gathered.Tie as tie
 
 abbrev Inv-loop : tie.InvT-loop
-Inv-loop joined work out g n kinds₀ plans₀ counts₀ i₀ kinds plans counts i =
+Inv-loop edition joined work out g n kinds₀ plans₀ counts₀ i₀ kinds plans counts i =
     Apart (g .list) n kinds plans counts i
 
 abbrev μ-loop : tie.MeasureT-loop
-μ-loop joined work out g n kinds₀ plans₀ counts₀ i₀ kinds plans counts i =
+μ-loop edition joined work out g n kinds₀ plans₀ counts₀ i₀ kinds plans counts i =
     n - i
 
 -- a point of the program, found by its type
@@ -26,14 +26,14 @@ returns : tie.Need-returns Inv-loop μ-loop
 returns c =
     let start : At tie.Start = search in
     let a = start .args in
-    refuse-many (a .t1) (a .joined .now) (length (a .work .now)) (a .out .now) (c .if1 .taken)
+    refuse-many (a .edition) (a .t2) (a .joined .now) (length (a .work .now)) (a .out .now) (c .if1 .taken)
 
 loop-holds : tie.Need-loop-holds Inv-loop μ-loop
 loop-holds c =
     let start : At tie.Start = search in
-    let g = start .args .t1 in
+    let g = start .args .t2 in
     -- what the type says of g: its list has 16 elements
-    let there : length (g .list) ≡ mostColumns = sym (length-map (g .list) _) ∙ start .good .0 .1 .1 .0 .1 .0 .1 in
+    let there : length (g .list) ≡ mostColumns = sym (length-map (g .list) _) ∙ start .good .1 .0 .1 .1 .0 .1 .0 .1 in
     apart-start (g .list) (g .n) _ _ _ (c .if1 .left) there refl refl refl
 
 loop-again : tie.Need-loop-again Inv-loop μ-loop
@@ -65,7 +65,7 @@ returns-2 c =
     let turn : At tie.At-loop = search in
     let start : At tie.Start = search in
     let a = start .args in
-    written (a .t1) (a .joined .now) (length (a .work .now)) (a .out .now) (turn .loop .inv) (left .loop-test .left) (wrote .write .result) _
+    written (a .edition) (a .t2) (a .joined .now) (length (a .work .now)) (a .out .now) (turn .loop .inv) (left .loop-test .left) (wrote .write .result) _
     (wrote .write .ensures)
 
 pub write-gathered-spec : {M : Type 1} → statement M

@@ -176,13 +176,13 @@ module _ {M : Type 1} (𝓤 : URA M) (H : Heap 𝓤) (A : Atoms 𝓤) (W : Given
             elim (either m i) [
               | inl l ↦
                   rewrite ! 4 (λ (t : Bool). ‵ (Tested t)) (lt-ltb i m l) refl $ stays ! (read ! 4 refl) $
-                  move ! (6 ∷ []) $ doubles ! (named 0) κ T.the-row s (val s ∷ []) $ number ! i (small n i l .2) $ move ! (8 ∷ 1 ∷ 0 ∷ []) $
+                  move ! (6 ∷ []) $ doubles ! (named 0) κ T.the-row s (val s ∷ []) $ number ! w64 i (small n i l .2) $ move ! (8 ∷ 1 ∷ 0 ∷ []) $
                   -- [the token; what orders owns; i's; orders's; g; what it owns; i; room for o; the test; m; n; orders; room for _0; …]
                   asks W order-at.ended (order-at.clauses 𝓤 H A mem run) (κ, tt) (q, tt) (s, (i, tt)) (val s ∷ [], (vint w64 i ∷ [], tt)) tt tt ! fm known-at
                   (factI 𝓤 (i < n) (emp 𝓤) (small n i l .0)) (two ! (read ! 9 refl) (read ! 4 refl))
                   (λ o ws. o ≡ getD ys i none) (λ o ws. id⊢ 𝓤 _) (λ w o ws₂ e₂ is₂. drop ! $
                   -- [what o owns; the token; what orders owns; g; what it owns; i; room for o; the test; m; n; orders; …]
-                  gets ! (init ! 6 refl (order-lawful .typed o _ is₂ .0)) $ number ! i (small n i l .2) $ move ! (5 ∷ 0 ∷ 1 ∷ []) $
+                  gets ! (init ! 6 refl (order-lawful .typed o _ is₂ .0)) $ number ! w64 i (small n i l .2) $ move ! (5 ∷ 0 ∷ 1 ∷ []) $
                   asks W with′.ended (with′.clauses 𝓤 H A mem run) tt tt (G i, (i, (o, tt))) (u ∷ [], (vint w64 i ∷ [], (w ∷ [], tt))) tt tt ! fm known-with
                   (factI 𝓤 (i < 16) (emp 𝓤) (small n i l .1)) (three ! (read ! 3 refl) (read ! 4 refl) (read ! 5 refl))
                   (λ r₂ ws. r₂ ≡ stored (G i) i o) (λ r₂ ws. id⊢ 𝓤 _) (λ u₂ r₂ ws₃ e₃ is₃. drop ! $
@@ -214,11 +214,11 @@ module _ {M : Type 1} (𝓤 : URA M) (H : Heap 𝓤) (A : Atoms 𝓤) (W : Given
           params1 ! $ pass1 ! (init ! 12 refl (slice-fits (g .0))) $ pass0 ! $
           -- [_7; …; _0; …; the token; what orders owns]
           sets ! (of-opd ! (read-field ! refl (look-in ! 12 (sub ! 1 refl (whole !))))) (init ! 10 refl (int-fits (g .0))) $
-          number ! n (g .0) $
+          number ! w64 n (g .0) $
           asks W upto.ended (upto.clauses 𝓤 H A mem run) tt tt (n, tt) (vint w64 n ∷ [], tt) tt tt ! fm known-upto (id⊢ 𝓤 _)
           (one ! (read ! 11 refl)) (λ r ws. r ≡ m) (λ r ws. id⊢ 𝓤 _) (λ u r ws e is. drop ! $ drop ! $
           gets ! (init ! 8 refl (uint-lawful 𝓤 H A W w64 .typed r _ is .0)) $
-          rewrite ! 8 (λ (w : Val). ‵ (fat fullShare word l₃ 0 w)) (ap only (is .0) ∙ ap (vint w64) e) refl $ number ! n (g .0) $
+          rewrite ! 8 (λ (w : Val). ‵ (fat fullShare word l₃ 0 w)) (ap only (is .0) ∙ ap (vint w64) e) refl $ number ! w64 n (g .0) $
           asks W start.ended (start.clauses 𝓤 H A mem run) tt tt (n, tt) (vint w64 n ∷ [], tt) tt tt ! fm known-start (id⊢ 𝓤 _)
           (one ! (read ! 11 refl)) (λ r₁ ws. r₁ ≡ empty n) (λ r₁ ws. id⊢ 𝓤 _) (λ u₁ r₁ ws₁ e₁ is₁. drop ! $
           gets ! (init ! 7 refl (lawful .typed r₁ _ is₁ .0)) $ rewrite ! 0 (λ (d : Gathered). ‵ (S.the-row .own d (u₁ ∷ []))) (e₁ ∙ sym first-is) refl $

@@ -27,10 +27,12 @@ returns : tie.Need-returns
 unfolding start-of
 returns c =
     let asked : tie.After-of-kind = search in
+    let known : tie.After-edition-of = search in
     let whole : tie.After-got2 = search in
     let read : tie.After-read-list = search in
     let a = start-of read .args in
-    column-kept (a .sheet .now) (a .entry) (read .read-list .ensures) (whole .got2 .given .1) (sym (c .if1 .taken) ∙ asked .of-kind .ensures)
+    column-kept (a .sheet .now) (a .entry) (read .read-list .ensures) (whole .got2 .given .1) (known .edition-of .ensures)
+    (sym (c .if1 .taken) ∙ asked .of-kind .ensures)
 
 returns-2 : tie.Need-returns-2
 unfolding start-of
@@ -44,10 +46,12 @@ returns-3 : tie.Need-returns-3
 unfolding start-of
 returns-3 c =
     let asked : tie.After-of-kind = search in
+    let known : tie.After-edition-of = search in
     let whole : tie.After-got2 = search in
     let read : tie.After-read-list = search in
     let a = start-of read .args in
-    column-other (a .sheet .now) (a .entry) (read .read-list .ensures) (whole .got2 .given .1) (sym (c .if1 .left) ∙ asked .of-kind .ensures)
+    column-other (a .sheet .now) (a .entry) (read .read-list .ensures) (whole .got2 .given .1) (known .edition-of .ensures)
+    (sym (c .if1 .left) ∙ asked .of-kind .ensures)
 
 pub read-column-spec : {M : Type 1} → statement M
 read-column-spec =
@@ -64,6 +68,7 @@ read-column-spec =
     read-list-requires
     (λ c. search needs)  -- enum-known-got
     (λ c. search needs)  -- enum-known-got-2
+    (λ c κs. search needs)  -- edition-of-requires
     of-kind-requires
     (λ c. search needs)  -- same-length
     returns

@@ -1,5 +1,6 @@
 -- `put_entry` puts part by part. Assumes nothing.
 use borrow.Author.Needs.{needs}
+use Rattle.meaning.specs.Sheet.{Entry}
 use Rattle.writer.proofs.Entries.{entry-laid}
 use Rattle.writer.proofs.sheets.put_entry.Statement.{statement}
 use Rattle.writer.proofs.sheets.put_entry.Tie as tie
@@ -12,7 +13,8 @@ returns c =
     let kind : tie.After-put = search in
     let start : tie.Start = search in
     let a = start .args in
-    entry-laid 1 (record { kind = a .kind; plan = a .plan .now; count = a .count; size = a .size }) (a .out .now) _ _ _ _ (a .at .byte) (start .pre .1)
+    let entry : Entry = record { kind = a .kind; plan = a .plan .now; count = a .count; size = a .size } in
+    entry-laid (a .edition) entry (a .out .now) _ _ _ _ (a .at .byte) (start .pre .1)
     (kind .put .ensures) (plan .put-bytes .ensures) (count .put-word .ensures) (size .put-word2 .ensures)
 
 pub put-entry-spec : {M : Type 1} → statement M

@@ -1,5 +1,6 @@
 -- `put_sheet` has laid the columns below k. Assumes nothing.
 use Prim.Native.Nat.{_-_}
+use mathlib.Core.Path.{_∙_}
 use native.Mathlib.Omega.{arith}
 use lib.ListN.{length}
 use borrow.Author.Needs.{needs}
@@ -9,11 +10,11 @@ use Rattle.writer.proofs.sheets.put_sheet.Statement.{statement}
 use Rattle.writer.proofs.sheets.put_sheet.Tie as tie
 
 abbrev Inv-loop : tie.InvT-loop
-Inv-loop kinds plans counts joined work₀ out₀ n at₀ from₀ k₀ work out at from k =
-    Passing kinds plans counts joined work₀ out₀ n work out (at .byte) from k
+Inv-loop edition kinds plans counts joined work₀ out₀ n at₀ from₀ k₀ work out at from k =
+    Passing edition kinds plans counts joined work₀ out₀ n work out (at .byte) from k
 
 abbrev μ-loop : tie.MeasureT-loop
-μ-loop kinds plans counts joined work₀ out₀ n at₀ from₀ k₀ work out at from k =
+μ-loop edition kinds plans counts joined work₀ out₀ n at₀ from₀ k₀ work out at from k =
     n - k
 
 -- a point of the program, found by its type
@@ -24,7 +25,7 @@ At point = point Inv-loop μ-loop
 entry-start-requires : tie.Need-entry-start-requires Inv-loop μ-loop
 entry-start-requires c κs =
     let start : At tie.Start = search in
-    omega (arith, start .pre .0 .few, slot-small 1 (length (start .args .kinds .now)))
+    omega (arith, start .pre .0 .few, slot-small (start .args .edition) (length (start .args .kinds .now)))
 
 loop-holds : tie.Need-loop-holds Inv-loop μ-loop
 loop-holds c =
@@ -74,14 +75,18 @@ add-from c =
 
 loop-again : tie.Need-loop-again Inv-loop μ-loop
 loop-again c =
+    let outKept : At tie.After-out3 = search in
+    let workKept : At tie.After-work2 = search in
     let put : At tie.After-put-column = search in
     let slot : At tie.After-entry-start2 = search in
+    let listKept : At tie.After-work = search in
     let copied : At tie.After-copy-list = search in
     let planned : At tie.After-used-plan = search in
     let counted : At tie.After-whole = search in
     let turn : At tie.In-loop = search in
     passing-turn (turn .before .loop .inv) (turn .loop-test .taken) (counted .whole .ensures .0) (planned .used-plan .ensures)
-    (copied .copy-list .ensures) (put .put-column .ensures) (slot .entry-start2 .ensures) (c .if1 .left) (search needs) (search needs)
+    (copied .copy-list .ensures) (put .put-column .ensures) (slot .entry-start2 .ensures) (c .if1 .left)
+    (workKept .work2 .given ∙ listKept .work .given) (outKept .out3 .given)
 
 -- ---- after the loop
 returns-2 : tie.Need-returns-2 Inv-loop μ-loop

@@ -8,11 +8,11 @@ use Rattle.writer.proofs.slices.lists_rise.Statement.{statement}
 use Rattle.writer.proofs.slices.lists_rise.Tie as tie
 
 abbrev Inv-loop : tie.InvT-loop
-Inv-loop kinds counts joined from₀ k₀ from k =
-    RisingBelow kinds counts joined from k
+Inv-loop edition kinds counts joined from₀ k₀ from k =
+    RisingBelow edition kinds counts joined from k
 
 abbrev μ-loop : tie.MeasureT-loop
-μ-loop kinds counts joined from₀ k₀ from k =
+μ-loop edition kinds counts joined from₀ k₀ from k =
     length kinds - k
 
 -- a point of the program, found by its type
