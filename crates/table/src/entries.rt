@@ -40,7 +40,7 @@ pub fn column_count(sheet: &[u8]) -> usize
     wide(sheet[1]) as usize
 }
 
-// How many bytes an entry takes.
+// How many bytes an entry takes: as many in either edition.
 fn entry_size(edition: u8) -> usize
     ensures { λ r. ⌜ r ≡ entrySize edition ⌝ }
 {
