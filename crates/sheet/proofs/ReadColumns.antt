@@ -5,7 +5,7 @@ use mathlib.Core.Bool.{true, false}
 use mathlib.Core.List.{List}
 use native.Mathlib.Omega.{arith}
 use lib.ListN.{length, length-take}
-use Rattle.meaning.specs.Answer.{Answer, given, refused, bind, need}
+use Rattle.meaning.specs.Answer.{Answer, given, need}
 use Rattle.meaning.specs.Limits.{fault}
 use Rattle.meaning.specs.Places.{part, Below, Got}
 use Rattle.meaning.specs.Plan.{planOf}

@@ -2,7 +2,7 @@
 use Prim.Native.Nat.{ℕ, suc, _+_, _*_, _≤_, _<_}
 use mathlib.Core.Path.{_≡_}
 use mathlib.Core.List.{List}
-use native.Mathlib.Nat.{mul-zero, mul-le-mul-left, mul-le-mul-right}
+use native.Mathlib.Nat.{mul-le-mul-left, mul-le-mul-right}
 use native.Mathlib.Omega.{arith}
 use lib.ListN.{length}
 use Rattle.meaning.specs.Sheet.{entrySize, editionOf, columnCount}
@@ -18,10 +18,7 @@ module _ (edition : ℕ) where
   unfolding entrySize
   entry-most = omega arith
 
-  pub slot-first : entryOffset edition 0 ≡ 2
-  slot-first = omega (arith, mul-zero (entrySize edition))
-
-  pub slot-next : (k : ℕ) → entryOffset edition k + entrySize edition ≡ entryOffset edition (suc k)
+  slot-next : (k : ℕ) → entryOffset edition k + entrySize edition ≡ entryOffset edition (suc k)
   slot-next k = omega arith
 
   -- one of n entries ends where the table does, or before

@@ -1,6 +1,5 @@
 -- `kind_at` reads the first byte of an entry. Assumes nothing.
 use native.Mathlib.Omega.{arith}
-use borrow.Author.Needs.{needs}
 use Rattle.table.proofs.Slots.{slot-within}
 use Rattle.table.proofs.EntryLaws.{kind-here}
 use Rattle.table.proofs.entries.kind_at.Statement.{statement}

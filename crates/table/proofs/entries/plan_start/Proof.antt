@@ -1,6 +1,5 @@
 -- `plan_start` passes the kind of an entry. Assumes nothing.
 use native.Mathlib.Omega.{arith}
-use borrow.Author.Needs.{needs}
 use Rattle.table.proofs.Slots.{slot-within}
 use Rattle.table.proofs.entries.plan_start.Statement.{statement}
 use Rattle.table.proofs.entries.plan_start.Tie as tie
