@@ -1,4 +1,4 @@
-// Plain C, the seven codes: reading one unit by its own rules, and a list of units.
+// Plain C, codes 1 to 7: reading one unit by its own rules, and a list of units.  (Code 8 is in plain_direct.c.)
 
 #include "plain_inside.h"
 
@@ -275,22 +275,31 @@ INLINE bool sum_units(unsigned code, const uint8_t *body, size_t length, uint32_
 
 bool read_code(unsigned code, const uint8_t *body, size_t length, uint32_t n, uint32_t *x)
 {
+    if (code == DIRECT)
+        return read_direct(body, length, n, x);
     FOR_CODE(code, read_units, body, length, n, x)
 }
 
 bool lookup_code(unsigned code, const uint8_t *body, size_t length, uint32_t n, uint32_t place, uint64_t *x)
 {
+    if (code == DIRECT)
+        return lookup_direct(body, length, place, x);
     FOR_CODE(code, find_unit, body, length, n, place, x)
 }
 
 bool sum_code(unsigned code, const uint8_t *body, size_t length, uint32_t n, uint32_t place, uint64_t *x)
 {
+    if (code == DIRECT)
+        return sum_direct(body, length, place, x);
     FOR_CODE(code, sum_units, body, length, n, place, x)
 }
 
 bool start_units(unsigned code, struct walk *w, const uint8_t *body, size_t length, uint32_t n)
 {
-    return start(code, w, body, length, n);
+    return code == DIRECT ? start_direct(&w->direct, body, length) : start(code, w, body, length, n);
 }
 
-unsigned take_unit(unsigned code, struct walk *w, uint32_t *x) { return take(code, w, x); }
+unsigned take_unit(unsigned code, struct walk *w, uint32_t *x)
+{
+    return code == DIRECT ? take_direct(&w->direct, x) : take(code, w, x);
+}

@@ -5,7 +5,7 @@
 #include <stdbool.h>
 #include <string.h>
 
-enum { VBYTE = 1, GROUPS, G8IU, STREAM, GAMMA, DELTA, FOURWISE, REFERENCE = 16, DIFFERENCES, RUNS };
+enum { VBYTE = 1, GROUPS, G8IU, STREAM, GAMMA, DELTA, FOURWISE, DIRECT, REFERENCE = 16, DIFFERENCES, RUNS };
 enum { BATCH = 16, MOST_UNIT = BATCH };             // numbers of a four-wise batch, and of the largest unit
 enum { PLAN = 15, ENTRY = 24, DEPTH = 4, MOST_COLUMNS = 16, MOST_COUNT = 1024, MOST_SHEET = 65536 };
 enum { FIRST_EDITION = 1, LAST_EDITION };           // ENTRY is of both
@@ -16,6 +16,14 @@ bool read_code(unsigned code, const uint8_t *body, size_t length, uint32_t n, ui
 bool lookup_code(unsigned code, const uint8_t *body, size_t length, uint32_t n, uint32_t place, uint64_t *x);
 bool sum_code(unsigned code, const uint8_t *body, size_t length, uint32_t n, uint32_t place, uint64_t *x);
 
+struct direct {                 // the parts of a directly addressed body, and where a walk over its places stands
+    const uint8_t *flags, *sums, *data;
+    uint32_t bytes;             // of data
+    uint32_t place, next;       // the next place; the byte after the number just taken
+    uint32_t stretch, end;      // of that number: its stretch, and where that ends
+    uint32_t limit;             // the place from which on, by its sum, another stretch is asked
+};
+
 struct walk {                   // where a walk over a body's units stands
     const uint8_t *body, *end;
     const uint8_t *at;          // the next unit (in Stream VByte its control byte)
@@ -23,11 +31,21 @@ struct walk {                   // where a walk over a body's units stands
     size_t bit;                 // gamma and delta: the next unit
     uint32_t left;              // how many numbers are still to come
     unsigned room, first;       // G8IU: the waste of the block just taken, the length of its first number
+    struct direct direct;       // code 8
 };
 
 // The same unit by unit: how many numbers the next one put at x, 0 for a fault.
 bool start_units(unsigned code, struct walk *w, const uint8_t *body, size_t length, uint32_t n);
 unsigned take_unit(unsigned code, struct walk *w, uint32_t *x);
+
+// All of it for code 8, and its writing.
+bool read_direct(const uint8_t *body, size_t length, uint32_t n, uint32_t *x);
+bool lookup_direct(const uint8_t *body, size_t length, uint32_t place, uint64_t *x);
+bool sum_direct(const uint8_t *body, size_t length, uint32_t place, uint64_t *x);
+bool start_direct(struct direct *d, const uint8_t *body, size_t length);
+bool take_direct(struct direct *d, uint32_t *x);
+size_t size_direct(const uint32_t *x, uint32_t n);
+uint8_t *put_direct(uint8_t *out, const uint32_t *x, uint32_t n);
 
 // Judges a plan of 15 bytes for a kind; where the plan that begins here, in a well-formed one, ends.
 uint32_t judge(unsigned kind, const uint8_t *plan);

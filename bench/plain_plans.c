@@ -8,7 +8,7 @@ static const uint8_t *plan_end(const uint8_t *p, const uint8_t *end, unsigned de
     if (p == end || depth == 0)
         return NULL;
     unsigned what = *p++;
-    if (what >= VBYTE && what <= FOURWISE)
+    if (what >= VBYTE && what <= DIRECT)
         return p;
     if (what < REFERENCE || what > RUNS)
         return NULL;
@@ -192,7 +192,7 @@ bool lookup_plan(const uint8_t *plan, const uint8_t *body, size_t length, uint32
         *x += load32(body);
         return true;
     case DIFFERENCES:
-        if (plan[1] <= FOURWISE)
+        if (plan[1] <= DIRECT)
             return sum_code(plan[1], body, length, n, place, x);
         if (open_list(lists, lists + 1, plan, body, length, n) == NULL)
             return false;

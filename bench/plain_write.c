@@ -33,6 +33,8 @@ static size_t size_code(unsigned code, const uint32_t *x, uint32_t n)
         return size + (n + 3) / 4;
     case G8IU:
         return size_g8iu(x, n);
+    case DIRECT:
+        return size_direct(x, n);
     case GAMMA:
         for (uint32_t i = 0; i < n; i++)
             size += 2 * bits_of((uint64_t)x[i] + 1) - 1;
@@ -142,6 +144,7 @@ static uint8_t *put_code(unsigned code, uint8_t *out, const uint32_t *x, uint32_
     case STREAM: return put_groups(out, x, n, true, false);
     case FOURWISE: return put_fourwise(out, x, n);
     case G8IU: return put_g8iu(out, x, n);
+    case DIRECT: return put_direct(out, x, n);
     default: return put_elias(out, x, n, code == DELTA);
     }
 }

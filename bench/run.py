@@ -18,12 +18,13 @@ import machine
 
 NUMBERS, REPEATS, PLACES = 1024, 4, (0, 255, 511, 1023)
 TIMED = 200
-PLANS = ("1", "2", "3", "4", "5", "6", "7", "17 1", "17 4", "18 1 1", "16 4")
+PLANS = ("1", "2", "3", "4", "5", "6", "7", "8", "17 1", "17 4", "17 8", "18 1 1", "16 4")
 STRICT = ("17 4",)              # also read and written in edition 2; all else is in edition 1
 WIDTHS = ("small", "mixed", "wide")
 NAMES = {"1": "VByte", "2": "group of four", "3": "G8IU", "4": "Stream VByte", "5": "gamma", "6": "delta",
-         "7": "four-wise", "17 1": "differences, VByte", "17 4": "differences, Stream VByte",
-         "18 1 1": "runs, VByte twice", "16 4": "reference, Stream VByte"}
+         "7": "four-wise", "8": "directly addressed", "17 1": "differences, VByte", "17 4": "differences, Stream VByte",
+         "17 8": "differences, directly addressed", "18 1 1": "runs, VByte twice", "16 4": "reference, Stream VByte"}
+SOURCES = ("bench", "plain", "plain_codes", "plain_direct", "plain_plans", "plain_write")
 ENGINES = ("library", "plain")
 
 
@@ -50,7 +51,7 @@ def plugin(program):
 def measure(archive):
     """{(engine, operation, place, edition, width, plan): instructions of one call}"""
     machine.install()
-    sources = [os.path.join(HERE, name + ".c") for name in ("bench", "plain", "plain_codes", "plain_plans", "plain_write")]
+    sources = [os.path.join(HERE, name + ".c") for name in SOURCES]
     program = machine.build("bench", *sources, archive, *machine.stream_flags())[-1]
     command = plugin(program) + [program]
     cases = [(engine, operation, place, 1, width, plan)

@@ -8,12 +8,13 @@
    call takes less than 32 KB of stack.  No pointer may be null, not even to a slice of length 0, and what a
    call may change (work, output and answers) must not overlap anything else that it is lent.
 
-    1  sheet below 2 or above 65,536 bytes, byte 0 neither 1 nor 2, over 16 columns
+    1  sheet below 2 or above 65,536 bytes, byte 0 neither 1 nor 2, over 16 columns; rank and select: a slice
+       above 65,536 bytes
     2  table cut short, kind above 1, count above 1,024, body lengths not filling the rest
     3  malformed plan
     4  plan not passed for its kind
     5  no such column
-    6  place not below the count
+    6  place not below the count; rank: bit above the number of bits; select: k not below the number of ones
     7  output shorter than the answer, or a written sheet would pass 65,536 bytes
     8  work slice too short
     9  fault in a body, or a list of kind 1 that does not rise as the sheet's edition means it
@@ -26,11 +27,12 @@
    is any list, kind 1 a rising one: in edition 1 no number is below the one before, in edition 2 each is
    above the one before.  In all else the two editions are the same.
 
-   A plan's bytes: codes 1 VByte, 2 group of four, 3 G8IU, 4 Stream VByte, 5 gamma, 6 delta and 7 four-wise
-   null suppression; stages 16 reference and 17 differences, each before one plan, and 18 runs before two.
+   A plan's bytes: codes 1 VByte, 2 group of four, 3 G8IU, 4 Stream VByte, 5 gamma, 6 delta, 7 four-wise null
+   suppression and 8 directly addressed, in which a lookup reads no other number and takes the sums that it
+   finds as they are; stages 16 reference and 17 differences, each before one plan, and 18 runs before two.
 
    On a sheet the order is 1; 2; each plan in turn, 3 before 4; 5; 6; 8; 7; 9; 12.  On writing it is 11; each
-   plan in turn, 3 before 4; each list in turn 10; 8; 7. */
+   plan in turn, 3 before 4; each list in turn 10; 8; 7.  For rank and select it is 1; 6. */
 
 #ifndef PELLUVION_H
 #define PELLUVION_H
@@ -45,7 +47,7 @@ extern "C" {
 #define PELLUVION_PLAN 15       /* bytes a plan, zero-filled */
 #define PELLUVION_COLUMNS 16    /* most columns a sheet */
 #define PELLUVION_COUNT 1024    /* most numbers a column */
-#define PELLUVION_SHEET 65536   /* most bytes a sheet */
+#define PELLUVION_SHEET 65536   /* most bytes a sheet, and a slice of bits */
 
 /* Judges a plan for a kind, 0 any or 1 rising, in either edition.  A plan that is not 15 bytes long is 3. */
 uint32_t pelluvion_judge(uint8_t kind, const uint8_t *plan, size_t plan_len);
@@ -81,6 +83,12 @@ uint32_t pelluvion_fetch(const uint8_t *sheet, size_t sheet_len, size_t column, 
    Work: 8 times the largest count. */
 uint32_t pelluvion_board(const uint8_t *sheet, size_t sheet_len, uint32_t *work, size_t work_len,
                          size_t *column, size_t *passed, size_t *failed, size_t *killed, size_t *unended);
+
+/* Rank and select over the bits of a slice, the lowest bit of each byte first.  Rank counts the ones before a
+   bit, which may be the number of bits; select finds the bit of the k-th one, k counted from 0.  Rank at the bit
+   that select finds is k. */
+uint32_t pelluvion_rank(const uint8_t *bytes, size_t len, size_t bit, size_t *ones);
+uint32_t pelluvion_select(const uint8_t *bytes, size_t len, size_t k, size_t *bit);
 
 #ifdef __cplusplus
 }

@@ -6,6 +6,8 @@
     strict.sheet    the same night in edition 2
     twice.sheet     edition 2, but two neighbouring jobs have the same number: edition 1's sheet of that with byte 0 set to 2,
                     which the check refuses by 9 in column 0
+    direct.sheet    the same night in edition 2 with every list directly addressed (code 8), run times in microseconds: the
+                    last column has more than 512 data bytes, so a sum
 
     python3 samples/make.py"""
 
@@ -39,8 +41,12 @@ def night():
     return jobs, endings, times
 
 
-def written(edition, jobs, endings, times):
-    orders = [(1, plan(17, 4), JOBS), (0, plan(18, 2, 1), JOBS), (0, plan(4), JOBS)]
+PLANS = plan(17, 4), plan(18, 2, 1), plan(4)
+DIRECT = plan(8), plan(18, 8, 8), plan(8)
+
+
+def written(edition, jobs, endings, times, plans=PLANS):
+    orders = [(kind, text, JOBS) for kind, text in zip((1, 0, 0), plans)]
     return reading.write(edition, orders, jobs + endings + times, 7 * JOBS, 65536)
 
 
@@ -62,6 +68,7 @@ def main():
     store("damaged", changed(sheet, -1, 0))
     store("cut", sheet[:-1])
     store("strict", written(2, jobs, endings, times))
+    store("direct", written(2, jobs, endings, [1000 * time for time in times], DIRECT))
     jobs[TWICE] = jobs[TWICE + 1]
     store("twice", changed(written(1, jobs, endings, times), 0, 2))
 

@@ -1,6 +1,6 @@
 """Runs every marked example of the document, its listing example, each of its "Errors seen in
-earlier code", the decisions 1 to 13 and the examples of requests P1 (code 7) to P3 (edition 2)
-against the reading.
+earlier code", the decisions 1 to 13 and the examples of requests P1 (code 7) to P4 (code 8, rank
+and select) against the reading.
 Exit status 1 if any differ."""
 
 import sys
@@ -248,6 +248,238 @@ case("four-wise sheet with a mask changed: check",
 case("four-wise sheet with a mask changed: reader", r.calls(SEVEN[:-2] + hexa("07 10"), 0, 18),
      [("number", i) for i in range(16)] + 2 * [R(9)])
 
+# ------------------------------------------------------------ directly addressed lists (request P4)
+
+code_example("direct 1024, 12, 10", 8, [1024, 12, 10], "04 00 00 00 0E 00 04 0C 0A")
+code_example("direct 0", 8, [0], "01 00 00 00 01 00")
+code_example("direct 255, 256, 4294967295", 8, [255, 256, MAX], "07 00 00 00 45 FF 00 01 FF FF FF FF")
+code_example("direct eight of 001", 8, EIGHT, "0D 00 00 00 8E 17 00 04 0C 0A 00 00 00 40 01 02 03 00 04")
+code_example("direct 1 to 4 bytes", 8, [255, 65535, 2**24 - 1, 2**24],
+             "0A 00 00 00 25 02 FF FF FF FF FF FF 00 00 00 01")
+code_example("direct 4294967295", 8, [MAX], "04 00 00 00 08 FF FF FF FF")
+code_example("direct 0 to 7, no spare bits", 8, list(range(8)), "08 00 00 00 FF 00 01 02 03 04 05 06 07")
+code_example("direct 0 to 8", 8, list(range(9)), "09 00 00 00 FF 01 00 01 02 03 04 05 06 07 08")
+
+FAULTY = (                                              # every place is at fault
+    ("no body", "", 1),
+    ("header cut short", "01 00 00", 1),
+    ("header alone", "01 00 00 00", 1),
+    ("bits alone", "01 00 00 00 01", 1),
+    ("bits cut short", "09 00 00 00 FF", 9),
+    ("no data bytes, as many due", "00 00 00 00", 1),
+    ("no data bytes told", "00 00 00 00 01 05", 1),
+    ("a data byte short", "04 00 00 00 0E 00 04 0C", 3),
+    ("a data byte more told", "05 00 00 00 0E 00 04 0C 0A", 3),
+    ("2^32 - 1 data bytes told", "FF FF FF FF 0E 00 04 0C 0A", 3),
+    ("2^32 - 4 data bytes told", "FC FF FF FF 0E 00 04 0C 0A", 3),
+    ("2^31 data bytes told", "00 00 00 80 0E 00 04 0C 0A", 3),
+    ("2^29 more data bytes told", "04 00 00 20 0E 00 04 0C 0A", 3),
+    ("parts that end 9 bytes after 2^32", "8D A6 C4 E2 0E 00 04 0C 0A", 3),
+    ("told highest byte first", "00 00 00 04 0E 00 04 0C 0A", 3),
+    ("no end bit", "04 00 00 00 00 00 04 0C 0A", 3),
+    ("bits highest first", "04 00 00 00 70 00 04 0C 0A", 3),
+    ("the end bit is a spare one", "01 00 00 00 02 05", 1),
+    ("0 in two bytes", "02 00 00 00 02 00 00", 1),
+    ("5 in two bytes", "02 00 00 00 02 05 00", 1),
+    ("256 in three bytes", "03 00 00 00 04 00 01 00", 1),
+    ("65536 in four bytes", "04 00 00 00 08 00 00 01 00", 1),
+    ("five bytes", "05 00 00 00 10 01 02 03 04 05", 1),
+    ("five bytes, the fifth 0", "05 00 00 00 10 01 02 03 04 00", 1),
+    ("nine bytes", "09 00 00 00 00 01 01 02 03 04 05 06 07 08 09", 1))
+for name, text, n in FAULTY:
+    case("direct " + name + " read", of(r.read_code, 8, hexa(text), n), R(9))
+    case("direct " + name + " looked up",
+         [of(r.lookup_code, 8, hexa(text), n, i) for i in range(n)], n * [R(9)])
+
+LOOSE = (                       # refused by reading; a lookup asks its own number alone
+    ("spare bit", "04 00 00 00 1E 00 04 0C 0A", [1024, 12, 10]),
+    ("the last spare bit", "04 00 00 00 8E 00 04 0C 0A", [1024, 12, 10]),
+    ("byte left over", "04 00 00 00 0E 00 04 0C 0A 00", [1024, 12, 10]),
+    ("the last bit 0", "05 00 00 00 0E 00 04 0C 0A 07", [1024, 12, 10]),
+    ("a number beyond the count", "04 00 00 00 0E 00 04 0C 0A", [1024, 12]),
+    ("all numbers beyond the count", "04 00 00 00 0E 00 04 0C 0A", []),
+    ("fewer than the count", "04 00 00 00 0E 00 04 0C 0A", [1024, 12, 10, R(9)]),
+    ("the first 0 in two bytes", "04 00 00 00 0E 00 00 0C 0A", [R(9), 12, 10]),
+    ("the second 5 in two bytes", "04 00 00 00 0D 01 05 00 03", [1, R(9), 3]),
+    ("five bytes, then 6", "06 00 00 00 30 01 02 03 04 05 06", [R(9), 6]),
+    ("1, then five bytes, then 7", "07 00 00 00 61 01 02 03 04 05 06 07", [1, R(9), 7]),
+    ("ends told by 0", "04 00 00 00 F1 00 04 0C 0A", [0, R(9), R(9)]),
+    ("a sum for bits that are not full", "04 00 00 00 0E 03 00 00 04 0C 0A", [R(9), 0, 4]),
+    ("an empty list with a data byte", "01 00 00 00 01 05", []),
+    ("an empty list with a bit", "01 00 00 00 00 05", []),
+    ("an empty list with a byte", "00 00 00 00 00", []),
+    ("an empty list with no header", "", []),
+    ("an empty list cut short", "00 00 00", []))
+for name, text, found in LOOSE:
+    body, n = hexa(text), len(found)
+    case("direct " + name + " read", of(r.read_code, 8, body, n), R(9))
+    case("direct " + name + " looked up", [of(r.lookup_code, 8, body, n, i) for i in range(n)], found)
+code_example("direct empty", 8, [], "00 00 00 00")
+
+# Stages ask code 8 place by place: a fault at one place is no fault at the next but where both are asked.
+SECOND = "04 00 00 00 0D 01 05 00 03"                   # 1, then 5 in two bytes, then 3
+ONES = "01 01 01"
+for p, text, n, found in (
+        ((16, 8), "0A 00 00 00" + SECOND, 3, [11, R(9), 13]),
+        ((17, 8), SECOND, 3, [1, R(9), R(9)]),
+        ((17, 16, 8), "0A 00 00 00" + SECOND, 3, [11, R(9), R(9)]),
+        ((18, 8, 1), "03 00 00 00 09 00 00 00" + SECOND + "01 02 01", 4, [1, R(9), R(9), 3]),
+        ((18, 16, 8, 1), "03 00 00 00 0D 00 00 00 0A 00 00 00" + SECOND + ONES, 3, [11, R(9), 13]),
+        ((18, 17, 8, 1), "03 00 00 00 09 00 00 00" + SECOND + ONES, 3, [1, R(9), R(9)]),
+        ((17, 18, 8, 1), "03 00 00 00 09 00 00 00" + SECOND + ONES, 3, [1, R(9), R(9)]),
+        ((18, 1, 8), "03 00 00 00 03 00 00 00 07 08 09" + SECOND, 9, [7] + 8 * [R(9)]),
+        ((18, 18, 8, 1, 1), "03 00 00 00 14 00 00 00" "03 00 00 00 09 00 00 00" + SECOND + ONES
+                            + "02 01 02", 5, [1, 1, R(9), 3, 3]),
+        ((18, 1, 18, 8, 1), "03 00 00 00 03 00 00 00 07 08 09" "03 00 00 00 09 00 00 00" + SECOND + ONES,
+         9, [7] + 8 * [R(9)])):
+    body, name = hexa(text), "direct, one place at fault under %s " % " ".join(map(str, p))
+    case(name + "read", of(r.read_plan, tree(*p), body, n), R(9))
+    case(name + "looked up", [of(r.lookup_plan, tree(*p), body, n, i) for i in range(n)], found)
+plan_example("plan 16 8 on 1000, 1002", tree(16, 8), [1000, 1002], "E8 03 00 00 02 00 00 00 03 00 02")
+plan_example("plan 17 8 on 5, 5, 133", tree(17, 8), [5, 5, 133], "03 00 00 00 07 05 00 80")
+plan_example("plan 17 16 8 on 5, 10, 15", tree(17, 16, 8), [5, 10, 15],
+             "05 00 00 00 03 00 00 00 07 00 00 00")
+plan_example("plan 18 8 1 on 7, 7, 7, 9", tree(18, 8, 1), [7, 7, 7, 9],
+             "02 00 00 00 07 00 00 00 02 00 00 00 03 07 09 03 01")
+plan_example("plan 18 1 8 on 7, 7, 7, 9", tree(18, 1, 8), [7, 7, 7, 9],
+             "02 00 00 00 02 00 00 00 07 09 02 00 00 00 03 03 01")
+plan_example("plan 18 8 8 on 7, 7, 7, 9", tree(18, 8, 8), [7, 7, 7, 9],
+             "02 00 00 00 07 00 00 00 02 00 00 00 03 07 09 02 00 00 00 03 03 01")
+for p, text in (((16, 8), "00000000 00000000"), ((17, 8), "00000000"), ((17, 16, 8), "00000000 00000000"),
+                ((18, 8, 1), "00000000 04000000 00000000"), ((18, 1, 8), "00000000 00000000 00000000"),
+                ((18, 8, 8), "00000000 04000000 00000000 00000000")):
+    plan_example("5 empty " + " ".join(map(str, p)), tree(*p), [], text)
+
+
+def direct(bits, sums, data):
+    """A body as it stands: its bits as 0 and 1."""
+    packed = sum(bit << i for i, bit in enumerate(bits)).to_bytes(r.up(len(bits), 8), "little")
+    return r.u32(len(data)) + packed + b"".join(x.to_bytes(2, "little") for x in sums) + bytes(data)
+
+
+def looked(body, n):
+    return [of(r.lookup_code, 8, body, n, i) for i in range(n)]
+
+
+# Lists around 512 and 1,024 bits.
+code_example("direct 511 one-byte", 8, 511 * [7], "FF 01 00 00" + 63 * "FF" + "7F" + 511 * "07")
+code_example("direct 512 one-byte", 8, 512 * [7], "00 02 00 00" + 64 * "FF" + "00 02" + 512 * "07")
+code_example("direct 513 one-byte", 8, 513 * [7], "01 02 00 00" + 64 * "FF" + "01 00 02" + 513 * "07")
+code_example("direct 1,023 one-byte", 8, 1023 * [7],
+             "FF 03 00 00" + 127 * "FF" + "7F" "00 02" + 1023 * "07")
+code_example("direct 1,024 one-byte", 8, 1024 * [7],
+             "00 04 00 00" + 128 * "FF" + "00 02 00 04" + 1024 * "07")
+code_example("direct 127 four-byte", 8, 127 * [MAX], "FC 01 00 00" + 63 * "88" + "08" + 508 * "FF")
+code_example("direct 128 four-byte", 8, 128 * [MAX], "00 02 00 00" + 64 * "88" + "80 00" + 512 * "FF")
+code_example("direct 129 four-byte", 8, 129 * [MAX], "04 02 00 00" + 64 * "88" + "08 80 00" + 516 * "FF")
+code_example("direct 256 four-byte", 8, 256 * [MAX],
+             "00 04 00 00" + 128 * "88" + "80 00 00 01" + 1024 * "FF")
+code_example("direct 1,024 four-byte", 8, 1024 * [MAX], "00 10 00 00" + 512 * "88"
+             + "80 00 00 01 80 01 00 02 80 02 00 03 80 03 00 04" + 4096 * "FF")
+# A number of four bytes of which 0 to 4 stand in the second stretch.
+for before, bits, told in ((508, "8F", "FD 01"), (509, "1F 01", "FD 01"), (510, "3F 02", "FE 01"),
+                           (511, "7F 04", "FF 01"), (512, "FF 08", "00 02")):
+    code_example("direct %d and one of four bytes" % before, 8, before * [7] + [2**24],
+                 "%02X 02 00 00" % (before - 508) + 63 * "FF" + bits + told + before * "07" + "00 00 00 01")
+
+# 256 to 855, two bytes each: stretches of 256, 256 and 88 numbers.
+TWOS = list(range(256, 856))
+PAIRS, PAIR_DATA = 600 * [0, 1], b"".join(x.to_bytes(2, "little") for x in TWOS)
+case("direct 600 of two bytes written", r.write_code(8, TWOS), direct(PAIRS, [256, 512], PAIR_DATA))
+FIRST, MIDDLE, LAST = TWOS[:256], TWOS[256:512], TWOS[512:]
+for sums, found in (                # a false sum is a fault to reading, and a lookup goes by it
+        ((255, 512), FIRST[:255] + MIDDLE + [R(9)] + LAST),             # the stretch lacks that end bit
+        ((257, 512), FIRST + [R(9)] + MIDDLE[:255] + LAST),
+        ((0, 512), MIDDLE + 256 * [R(9)] + LAST),
+        ((256, 511), FIRST + MIDDLE[:255] + LAST + [R(9)]),
+        ((256, 513), FIRST + MIDDLE + [R(9)] + LAST[:87]),
+        ((256, 256), FIRST + LAST + 256 * [R(9)]),                      # nothing in the middle
+        ((256, 0), FIRST + 344 * [R(9)]),
+        ((256, 65535), FIRST + MIDDLE + 88 * [R(9)]),                   # nothing after the last sum
+        ((65535, 512), FIRST + 344 * [R(9)]),
+        ((512, 256), FIRST + 344 * [R(9)]),                             # they fall
+        ((300, 200), FIRST + 344 * [R(9)]),
+        ((300, 256), FIRST + 44 * [R(9)] + LAST[44:] + 256 * [R(9)]),
+        ((200, 100), FIRST[:200] + 400 * [R(9)]),
+        ((0, 0), LAST + 512 * [R(9)]),
+        ((2, 1), FIRST[:2] + LAST[1:] + 511 * [R(9)]),
+        ((1, 514), FIRST[:1] + MIDDLE + 257 * [R(9)] + LAST[:86]),
+        ((512, 513), FIRST + 256 * [R(9)] + MIDDLE[:1] + LAST[:87])):
+    body, name = direct(PAIRS, sums, PAIR_DATA), "direct sums %d and %d " % sums
+    case(name + "read", of(r.read_code, 8, body, 600), R(9))
+    case(name + "looked up", looked(body, 600), found)
+    case(name + "checked", named(r.check, sheet((0, plan(8), 600, body)), 4800), ("refused", 9, 0))
+EXCLUSIVE = direct(PAIRS, (0, 256), PAIR_DATA)          # the ones before them alone
+case("direct sums of the ones before read", of(r.read_code, 8, EXCLUSIVE, 600), R(9))
+case("direct sums of the ones before looked up", looked(EXCLUSIVE, 600),
+     MIDDLE + LAST + 256 * [R(9)])
+case("direct sums highest byte first read",
+     of(r.read_code, 8, direct(PAIRS, (0x0001, 0x0002), PAIR_DATA), 600), R(9))
+case("direct a third sum for the rest read",
+     of(r.read_code, 8, direct(PAIRS, (256, 512, 600), PAIR_DATA), 600), R(9))
+case("direct the last sum left out read", of(r.read_code, 8, direct(PAIRS, (256,), PAIR_DATA), 600), R(9))
+EVEN = direct(PAIRS[:1024], (256, 600), PAIR_DATA[:1024])               # no bits after the last sum
+case("direct the last sum too large read", of(r.read_code, 8, EVEN, 512), R(9))
+case("direct the last sum too large looked up", looked(EVEN, 512), TWOS[:512])
+EVEN = direct(PAIRS[:1024], (256, 511), PAIR_DATA[:1024])
+case("direct the last sum too small looked up", looked(EVEN, 512), TWOS[:511] + [R(9)])
+# A bit of the first stretch lost, the sums as they were: place 255 has no end bit there, and what follows is right.
+LOST = direct(PAIRS[:9] + [0] + PAIRS[10:], (256, 512), PAIR_DATA)
+case("direct an end bit lost read", of(r.read_code, 8, LOST, 600), R(9))
+case("direct an end bit lost looked up", looked(LOST, 600), TWOS[:4] + [256 + 4 + (256 + 5) * 2**16]
+     + TWOS[6:256] + [R(9)] + TWOS[256:])
+# Five bytes over the end of a stretch: the four bits before its end bit are asked, whichever stretch they are in.
+for before in range(508, 512):
+    bits = before * [1] + [0, 0, 0, 0, 1]
+    body = direct(bits, (before,), before * b"\7" + b"\1\2\3\4\5")
+    case("direct five bytes after %d read" % before, of(r.read_code, 8, body, before + 1), R(9))
+    case("direct five bytes after %d looked up" % before, looked(body, before + 1), before * [7] + [R(9)])
+
+EIGHTH = sheet((0, plan(8), 3, hexa("04 00 00 00 0E 00 04 0C 0A")))
+case("direct sheet written", of(r.write, 1, [(0, plan(8), 3)], [1024, 12, 10], 21, 35), EIGHTH)
+case("direct sheet written, one byte less", of(r.write, 1, [(0, plan(8), 3)], [1024, 12, 10], 21, 34), R(7))
+case("direct sheet read", of(r.read, EIGHTH, 0, 21, 3), [1024, 12, 10])
+case("direct sheet checked", named(r.check, EIGHTH, 24), None)
+case("direct sheet listed", r.listing(EIGHTH),
+     b"columns 1\ncolumn 0 any plan 8 count 3 bytes 9\n0 1024\n1 12\n2 10\nend\n")
+ALONE = sheet((0, plan(8), 3, hexa(SECOND)))
+case("direct sheet, one place at fault: check", named(r.check, ALONE, 24), ("refused", 9, 0))
+case("direct sheet, one place at fault: lookups", [of(r.lookup, ALONE, 0, i) for i in range(4)],
+     [1, R(9), 3, R(6)])
+case("direct sheet, one place at fault: reader", r.calls(ALONE, 0, 4), [("number", 1)] + 3 * [R(9)])
+NOTHING = sheet((0, plan(8), 0, bytes(4)))
+case("direct empty column written", of(r.write, 1, [(0, plan(8), 0)], [], 0, 30), NOTHING)
+case("direct empty column checked", named(r.check, NOTHING, 0), None)
+case("direct empty column looked up", of(r.lookup, NOTHING, 0, 0), R(6))
+case("direct empty column with no body", named(r.check, sheet((0, plan(8), 0, b"")), 0), ("refused", 9, 0))
+case("direct worst, and reached", [(n, len(r.write_code(8, n * [MAX]))) for n in (0, 1, 2, 127, 128, 129, 1024)],
+     [(n, r.worst(plan(8), n)) for n in (0, 1, 2, 127, 128, 129, 1024)])
+case("direct worst of 1, 2, 127, 128, 1024", [r.worst(plan(8), n) for n in (1, 2, 127, 128, 1024)],
+     [9, 13, 576, 582, 4628])
+
+# ------------------------------------------------------------ rank and select (request P4)
+
+TWELVE = hexa("B2 0D")                                  # 002's 0100 1101 1011, and four bits 0
+case("rank at every bit", [of(r.rank, TWELVE, i) for i in range(18)],
+     [0, 0, 1, 1, 1, 2, 3, 3, 4, 5, 5, 6, 7, 7, 7, 7, 7, R(6)])
+case("select of every one", [of(r.select, TWELVE, k) for k in range(8)], [1, 4, 5, 7, 8, 10, 11, R(6)])
+case("rank, 002's of 8", r.rank(TWELVE, 8), 4)
+case("select, 002's fifth", r.select(TWELVE, 4), 8)
+case("rank of nothing", (of(r.rank, b"", 0), of(r.rank, b"", 1)), (0, R(6)))
+case("select of nothing", of(r.select, b"", 0), R(6))
+case("select of no ones", of(r.select, bytes(9), 0), R(6))
+case("rank of no ones", [of(r.rank, bytes(9), i) for i in (0, 1, 71, 72, 73)], [0, 0, 0, 0, R(6)])
+case("rank of ones", [of(r.rank, 3 * b"\xff", i) for i in range(26)], list(range(25)) + [R(6)])
+case("select of ones", [of(r.select, 3 * b"\xff", k) for k in range(25)], list(range(24)) + [R(6)])
+case("the lowest bit first", [(r.rank(hexa("01"), 1), r.rank(hexa("80"), 7), r.select(hexa("80"), 0))], [(1, 0, 7)])
+WIDEST = bytes(65535) + b"\x80"
+case("rank of 65,536 bytes", [of(r.rank, WIDEST, i) for i in (0, 524287, 524288, 524289, 2**32, 2**64 - 1)],
+     [0, 0, 1, R(6), R(6), R(6)])
+case("select of 65,536 bytes", [of(r.select, WIDEST, k) for k in (0, 1, 2**32, 2**64 - 1)],
+     [524287, R(6), R(6), R(6)])
+case("rank of 65,537 bytes", [of(r.rank, WIDEST + b"\0", i) for i in (0, 524296, 524297, 2**64 - 1)], 4 * [R(1)])
+case("select of 65,537 bytes", [of(r.select, WIDEST + b"\0", k) for k in (0, 1, 2**64 - 1)], 3 * [R(1)])
+
 # ------------------------------------------------------------ decisions 1 to 13
 
 case("1 zeros judged", r.judge(0, NONE), 3)
@@ -292,8 +524,8 @@ case("4 exactly 65,536", len(of(r.write, 1, FULL, EXACT, 7168, 65536)), 65536)
 case("4 65,537", of(r.write, 1, FULL, EXACT[:-1] + [128], 7168, 70000), R(7))
 case("4 no orders need no work", of(r.write, 1, [], [], 0, 2), hexa("01 00"))
 
-for code in r.CODES:
-    code_example("5 empty list by code %d" % code, code, [], "")
+for code in r.CODES:                                    # code 8 tells that it has no data bytes
+    code_example("5 empty list by code %d" % code, code, [], "00 00 00 00" if code == 8 else "")
     case("5 empty list by code %d, a byte" % code, of(r.read_code, code, b"\0", 0), R(9))
 plan_example("5 empty 16 1", tree(16, 1), [], "00 00 00 00")
 case("5 empty 16 1, nonzero", of(r.read_plan, tree(16, 1), hexa("01 00 00 00"), 0), R(9))
@@ -541,10 +773,12 @@ case("refusal 3: after the end", r.judge(0, plan(1, 0, 1)), 3)
 case("refusal 4: lengths are any", r.judge(1, plan(18, 1, 17, 1)), 4)
 case("refusal 4: values keep the kind", r.judge(1, plan(18, 16, 17, 1, 16, 1)), 0)
 case("refusal 4: 17 hands on any", r.judge(1, plan(17, 17, 1)), 4)
-case("the fullest plan", r.judge(0, bytes([18, 18, 18, 1, 2, 18, 3, 4, 18, 18, 5, 6, 18, 7, 2])), 0)
+case("the fullest plan", r.judge(0, bytes([18, 18, 18, 1, 2, 18, 3, 4, 18, 18, 5, 6, 18, 7, 8])), 0)
 case("every plan of one number", [x for x in range(256) if r.judge(0, plan(x)) == 0], list(r.CODES))
-case("the codes", r.CODES, (1, 2, 3, 4, 5, 6, 7))
-case("refusal 3: 8 under a stage", r.judge(0, plan(16, 8)), 3)
+case("the codes", r.CODES, (1, 2, 3, 4, 5, 6, 7, 8))
+case("8 under a stage", [r.judge(1, plan(*p)) for p in ((16, 8), (17, 8), (18, 8, 8), (17, 16, 8))], 4 * [0])
+case("refusal 3: 9 under a stage", r.judge(0, plan(16, 9)), 3)
+case("refusal 4: 17 8 under kind 0", r.judge(0, plan(17, 8)), 4)
 case("refusal 5 before 6", of(r.lookup, LISTED, 1, 99), R(5))
 case("refusal 6", of(r.lookup, LISTED, 0, 3), R(6))
 case("refusal 8: check", named(r.check, LISTED, 23), ("refused", 8, 0))
@@ -556,13 +790,13 @@ case("refusal 11: count 1,025", of(r.write, 1, [(0, NONE, 1025)], 1025 * [0], 99
 case("refusal 11: counts and slice", of(r.write, 1, [(0, NONE, 1)], [1, 2], 99, 99), R(11))
 case("worst: 3 before 11", of(r.worst, plan(9), 1025), R(3))
 case("worst: 11", of(r.worst, plan(1), 1025), R(11))
-case("worst of 5 by each code", [r.worst(plan(c), 5) for c in r.CODES], [25, 22, 27, 22, 41, 27, 22])
+case("worst of 5 by each code", [r.worst(plan(c), 5) for c in r.CODES], [25, 22, 27, 22, 41, 27, 22, 27])
 case("worst of 17 by code 7", r.worst(plan(7), 17), 4 * 17 + 5)
 case("worst of 17 by code 7, reached", len(r.write_code(7, 17 * [MAX])), 4 * 17 + 5)
-case("worst of 16, 17, 18", [r.worst(plan(*p), 5) for p in ((16, 1), (17, 1), (18, 16, 1, 2))],
-     [29, 25, 8 + 29 + 22])
-case("worst of 0", [r.worst(plan(*p), 0) for p in ((1,), (5,), (16, 3), (18, 16, 1, 1))],
-     [0, 0, 4, 12])
+case("worst of 16, 17, 18", [r.worst(plan(*p), 5) for p in ((16, 1), (17, 1), (18, 16, 1, 2), (18, 8, 8))],
+     [29, 25, 8 + 29 + 22, 8 + 27 + 27])
+case("worst of 0", [r.worst(plan(*p), 0) for p in ((1,), (5,), (8,), (16, 3), (18, 16, 1, 1), (18, 8, 8))],
+     [0, 0, 4, 4, 12, 16])
 
 # ------------------------------------------------------------ the end
 

@@ -104,6 +104,59 @@ def case_code():
         says("look (code %d) %s %d %d" % (code, listed(body), n, place), answer(lambda: R.lookup_code(code, body, n, place), str))
 
 
+def in_full(tree_is, tree, body, n, places=None):
+    """A body as it stands, read and looked up, at every place if none are named."""
+    says("read %s %s %d" % (tree_is, listed(body), n), answer(lambda: R.read_plan(tree, body, n), listed))
+    for place in range(n) if places is None else sorted(places):
+        says("look %s %s %d %d" % (tree_is, listed(body), n, place), answer(lambda: R.lookup_plan(tree, body, n, place), str))
+
+
+def direct(body, n, places=None):
+    in_full("(code 8)", (R.DIRECT,), body, n, places)
+
+
+def case_direct():
+    """Code 8: the request's examples, and its rules broken one by one."""
+    for xs in [1024, 12, 10], [0], [], [255, 256, LARGEST], list(range(8)), [LARGEST] * 2:
+        says("write (code 8) %s" % listed(xs), listed(body := R.write_code(R.DIRECT, xs)))
+        direct(body, len(xs))
+    whole = bytes.fromhex("040000000E" "00040C0A")          # 1024, 12, 10
+    for at, value in (0, 0), (0, 3), (0, 5), (3, 255), (4, 0x1E), (4, 0x8E), (4, 6), (4, 0x0F), (4, 0x0C), (4, 8), (6, 0):
+        direct(changed(whole, at, value), 3)
+    for body in whole[:-1], whole + b"\0", whole[:3], b"\xff\xff\xff\xff" + whole[4:], b"\xfc\xff\xff\xff" + whole[4:]:
+        direct(body, 3)
+    for n in 0, 2, 4:
+        direct(whole, n)
+    direct(bytes.fromhex("0500000010" "0102030405"), 1)     # five bytes; then a 6 after them
+    direct(bytes.fromhex("0600000030" "010203040506"), 2)
+    second = bytes.fromhex("040000000D" "01050003")         # 1, then 5 in two bytes, then 3: stages ask place by place
+    three, parts = R.u32(3), R.u32(3) + R.u32(len(second))
+    for stages, body, n in (([8], second, 3), ([16, 8], R.u32(10) + second, 3), ([17, 8], second, 3), ([17, 16, 8], R.u32(10) + second, 3),
+                            ([18, 8, 1], parts + second + b"\1\2\1", 4), ([18, 1, 8], three + three + b"\7\x08\x09" + second, 9),
+                            ([18, 8, 8], parts + second + R.write_code(R.DIRECT, [1, 2, 1]), 4), ([17, 18, 8, 1], parts + second + b"\1\1\1", 3)):
+        in_full("(planOf %s)" % listed(fill(stages)), R.parse_plan(fill(stages)), body, n)
+
+
+def case_sums():
+    """Code 8 with full stretches and bits after them, its sums true, false and falling."""
+    for size, n in (4, 128), (4, 130), (2, 520):
+        xs, of_stretch = [256 ** (size - 1) + i for i in range(n)], 512 // size
+        says("write (code 8) %s" % listed(xs), listed(body := R.write_code(R.DIRECT, xs)))
+        at, places = 4 + R.up(size * n, 8), {of_stretch - 1, min(of_stretch, n - 1), n - 1}
+        for first_sum in of_stretch, of_stretch - 1, 2 * of_stretch + 1:
+            direct(body[:at] + first_sum.to_bytes(2, "little") + body[at + 2:], n, places)
+
+
+def case_bits():
+    """Rank and select over a slice, at bits that are there, at the end and after it."""
+    data = bytes(RANDOM.choice([0, 255, 1 << RANDOM.randrange(8), RANDOM.randrange(256)]) for _ in range(RANDOM.randint(0, 9)))
+    bits, ones = 8 * len(data), R.rank(data, 8 * len(data))
+    for bit in sorted({0, RANDOM.randint(0, bits), bits, bits + 1, 2 ** 32}):
+        says("rank %s %d" % (listed(data), bit), answer(lambda: R.rank(data, bit), str))
+    for k in sorted({0, RANDOM.randint(0, ones), max(1, ones) - 1, ones, 2 ** 32}):
+        says("select %s %d" % (listed(data), k), answer(lambda: R.select(data, k), str))
+
+
 def case_judge():
     kind = RANDOM.randint(0, 1)
     bytes_of_plan = fill(plan(3, kind))
@@ -221,14 +274,14 @@ def case_programs():
     whole = [b"\1", b"\1\0", b"\1\x11", example, strict, example[:20], example + b"\0", board]
     # kind 2; an unknown number in a plan, one after its end; differences of kind 0; a last byte of 0; the same in column 1
     whole += [changed(strict, at, value) for at, value in ((2, 2), (4, 9), (6, 1), (2, 0), (29, 0))]
-    whole += [changed(board, at, value) for at, value in ((26, 2), (27, 8), (len(board) - 1, 0))] + [changed(sheet(jobs, jobs), 26, 0)]
+    whole += [changed(board, at, value) for at, value in ((26, 2), (27, 9), (len(board) - 1, 0))] + [changed(sheet(jobs, jobs), 26, 0)]
     whole += [sheet(jobs, (kind, [1], endings)) for kind, endings in ((1, [0, 0, 0, 256]), (0, [123, 124, 125, 124]), (0, [0, 1, 255, 257]), (0, [0, 1, 255]))]
     whole += [sheet((kind, [1], xs), (0, [1], [0] * len(xs))) for kind, xs in ((1, []), (0, [3, 4]), (1, [3, 4, 4]))]
     whole.append(changed(sheet((0, [1], [4, 3]), (0, [1], [0, 0])), 2, 1))
     # all of these in both editions: 5, 5, 133 and the other equal neighbours of kind 1 are a fault in edition 2
     whole = [changed(given, 0, edition) for given in whole for edition in R.EDITIONS]
     whole += [b""] + [changed(given, 0, edition) for given in (b"\1\0", example, board) for edition in OTHER_EDITIONS]
-    whole += [sheet(*[(0, [18, 16, code % 7 + 1, 5], [LARGEST, code]) for code in range(12)]), sheet((0, [2], list(range(95, 107))))]
+    whole += [sheet(*[(0, [18, 16, R.CODES[i % 8], 5], [LARGEST, i]) for i in range(12)]), sheet((0, [2], list(range(95, 107))))]
     whole.append(sheet((1, [17, 18, 1, 1], list(range(1, 1025))), (0, [18, 1, 1], 1024 * [256])))
     for given in whole + [drawn_sheet() for _ in range(CASES // 20)]:
         programs(given)
@@ -255,6 +308,10 @@ def text():
 def main():
     for i in range(CASES):
         [case_code, case_judge, case_plan, case_write, case_sheet][i % 5]()
+    for _ in range(CASES // 20):
+        case_bits()
+    case_direct()
+    case_sums()
     case_editions()
     case_programs()
     shutil.rmtree(PLACE, ignore_errors=True)

@@ -75,13 +75,25 @@ def written_out(edition):
     both("a last byte of 0", changed(example, 29, 0), no(9), no(9))
     two = sheet(edition, (1, (17, 1), [1, 2]), (0, (1,), [0, 256]))
     both("a fault in column 1", changed(two, len(two) - 1, 0), no(9, 1), no(9, 1))
-    both("a malformed plan in column 1", changed(two, 27, 8), no(3, 1), no(3, 1))
+    both("a malformed plan in column 1", changed(two, 27, 9), no(3, 1), no(3, 1))
     # 0 to 16 by code 7: four masks and 16 numbers, then a mask and the last
     batches = start + bytes.fromhex("01" "0007" + 14 * "00" + "11000000" "16000000" "FFFFFFFF"
                                     "000102030405060708090A0B0C0D0E0F" "0310")
     numbers = b"".join(b"%d %d\n" % (i, i) for i in range(17))
     both("four-wise", batches, b"columns 1\ncolumn 0 any plan 7 count 17 bytes 22\n" + numbers + b"end\n", no(12))
     both("four-wise, an unused field not 0", changed(batches, 46, 0x43), no(9), no(9))
+    # 1024, 12, 10 by code 8: four data bytes, an end bit for the second, the third and the fourth, no sum
+    direct = start + bytes.fromhex("01" "0008" + 14 * "00" + "03000000" "09000000" "04000000" "0E" "00040C0A")
+    both("direct", direct, b"columns 1\ncolumn 0 any plan 8 count 3 bytes 9\n0 1024\n1 12\n2 10\nend\n", no(12))
+    for name, at, value in (("a spare bit", 30, 0x1E), ("the last bit 0", 30, 6), ("an end bit more", 30, 0x0F), ("a data byte less told", 26, 3),
+                            ("2^24 data bytes more told", 29, 1), ("0 in two bytes", 32, 0), ("a number more in the table", 18, 4)):
+        both("direct, " + name, changed(direct, at, value), no(9), no(9))
+    # 130 of 2^24 by code 8: a sum of 128 after 65 bytes of bits
+    long = sheet(edition, (0, (8,), 130 * [2**24]))
+    text = b"columns 1\ncolumn 0 any plan 8 count 130 bytes 591\n" + b"".join(b"%d 16777216\n" % i for i in range(130)) + b"end\n"
+    both("direct, a sum", long, text, no(12))
+    for value in 127, 129, 0:
+        both("direct, a sum of %d" % value, changed(long, 26 + 4 + 65, value), no(9), no(9))
 
 
 def boards(edition):
@@ -127,10 +139,10 @@ def editions():
 
 
 def damaged(rounds):
-    """A night's sheet in either edition with a few bytes changed, or cut: compared with the reading."""
-    nights, rnd = [sample("night"), sample("strict")], random.Random(1)
+    """A night's sheet in either edition, or directly addressed, with a few bytes changed, or cut: compared with the reading."""
+    nights, rnd = [sample("night"), sample("strict"), sample("direct")], random.Random(1)
     for i in range(rounds):
-        data = nights[i % 2]
+        data = nights[i % 3]
         if rnd.randrange(8) == 0:
             data = changed(data, 0, rnd.choice([0, 1, 1, 2, 2, 3]))
         for _ in range(rnd.randrange(3)):
@@ -141,11 +153,12 @@ def damaged(rounds):
 def samples():
     for edition in r.EDITIONS:
         full = sheet(edition, (0, (18, 2, 3), [x // 7 * 99991 for x in range(1024)]), (0, (7,), [x * 99991 for x in range(1024)]),
-                     *14 * [(1, (17, 5), list(range(1024)))])
+                     (0, (8,), [x * x * 4093 for x in range(1024)]), *13 * [(1, (17, 5), list(range(1024)))])
         both("16 columns of 1,024 numbers", full)
     night = sample("night")
     both("night", night)
     both("strict, which is night in edition 2", sample("strict"), r.listing(night), r.board_text(night))
+    both("direct, which is night but for its plans and its times", sample("direct"), board=r.board_text(night))
     for name, line in ("damaged", no(9, 2)), ("cut", no(2)), ("twice", no(9)):
         both(name, sample(name), line, line)
 
@@ -155,7 +168,7 @@ for edition in r.EDITIONS:
     boards(edition)
 editions()
 samples()
-damaged(60)
+damaged(75)
 for case in CAN_REACH:
     if seen[case] != CAN_REACH[case]:
         differ += 1

@@ -1,6 +1,7 @@
 """A plain reading of the sheet document (01-scope.md), written from its text alone, with
-requests P1, P2 and P3 (02-change-requests.md): code 7, four-wise null suppression; 124 is a
-kill; edition 2, in which kind 1 means each number above the one before.
+requests P1, P2, P3 and P4 (02-change-requests.md): code 7, four-wise null suppression; 124 is a
+kill; edition 2, in which kind 1 means each number above the one before; code 8, the directly
+addressed list, with rank and select.
 
 It shares nothing with the proved code and is there to be compared with it.  Where the
 document leaves room, "Decisions on open questions" 1 to 13 hold and are named in comments.
@@ -11,7 +12,8 @@ A place counts numbers, an offset counts bytes.  What reads a sheet takes its ed
 from itertools import accumulate, groupby, islice
 
 MOST_NUMBER, MOST_COLUMNS, MOST_COUNT, MOST_SHEET = 2**32 - 1, 16, 1024, 65536
-VBYTE, GROUPS, G8IU, STREAM, GAMMA, DELTA, FOURWISE = CODES = (1, 2, 3, 4, 5, 6, 7)
+VBYTE, GROUPS, G8IU, STREAM, GAMMA, DELTA, FOURWISE, DIRECT = CODES = (1, 2, 3, 4, 5, 6, 7, 8)
+STRETCH = 512                   # bits that share a sum in code 8
 REFERENCE, DIFFERENCES, RUNS = 16, 17, 18
 ANY, RISING = 0, 1
 EDITIONS = (1, 2)
@@ -122,6 +124,27 @@ def pack(bits):
     bits += "0" * (-len(bits) % 8)
     return bytes(int(bits[i:i + 8], 2) for i in range(0, len(bits), 8))
 
+def low_first(bits):
+    """Lowest bit of each byte first; spare bits of the last byte 0."""
+    out = bytearray(up(len(bits), 8))
+    for i, bit in enumerate(bits):
+        out[i // 8] += bit << (i % 8)
+    return bytes(out)
+
+def bits_of(data):
+    """The bits of bytes, lowest bit of each byte first."""
+    return [(byte >> i) & 1 for byte in data for i in range(8)]
+
+def write_direct(numbers):
+    """The number of data bytes; a bit for each, 1 where a number ends; a sum for every full 512
+    bits, the ones before and including them; the data bytes."""
+    bits, data = [], b""
+    for x in numbers:
+        bits += (fewest(x) - 1) * [0] + [1]
+        data += x.to_bytes(fewest(x), "little")
+    sums = [sum(bits[:end]) for end in range(STRETCH, len(bits) + 1, STRETCH)]
+    return u32(len(data)) + low_first(bits) + b"".join(x.to_bytes(2, "little") for x in sums) + data
+
 def write_code(code, numbers):
     """The body of a list by a code."""
     if code == VBYTE:
@@ -135,6 +158,8 @@ def write_code(code, numbers):
         return write_g8iu(numbers)
     if code == FOURWISE:
         return write_batches(numbers)
+    if code == DIRECT:
+        return write_direct(numbers)
     bits = {GAMMA: gamma_bits, DELTA: delta_bits}[code]
     return pack("".join(bits(x + 1) for x in numbers))      # v, the number plus one
 
@@ -143,7 +168,7 @@ def write_code(code, numbers):
 # Reading one unit answers with its numbers and where the next unit begins, or the refusal.
 # `at` is where it begins: an offset; a bit of the body in gamma and delta; a control and a
 # data offset in Stream VByte.  `left`, at least 1, is how many numbers of the list are in
-# this unit and after it.
+# this unit and after it.  Code 8 has no such walk: its parts are below.
 
 def unit_vbyte(body, at, left):
     x = 0
@@ -260,8 +285,62 @@ def units(code, body, n):
         left -= len(numbers)
         yield numbers, at
 
+def direct_parts(body):
+    """Code 8's parts: the bits, the spare bits, the sums, the data bytes, what is left over, and a
+    list of end bits for each stretch, then for the bits after the last sum, of which there may be
+    none.  First of all the parts' ends must fit the body."""
+    many = header(body, 0)
+    sums_at = 4 + up(many, 8)
+    data_at = sums_at + 2 * (many // STRETCH)
+    fault_if(data_at + many > len(body))
+    all_bits = bits_of(body[4:sums_at])
+    bits, spare = all_bits[:many], all_bits[many:]
+    sums = [int.from_bytes(body[at:at + 2], "little") for at in range(sums_at, data_at, 2)]
+    ends = [[first + i for i, bit in enumerate(bits[first:first + STRETCH]) if bit == 1]
+            for first in range(0, many + 1, STRETCH)]
+    return bits, spare, sums, body[data_at:data_at + many], body[data_at + many:], ends
+
+def direct_number(data):
+    """The number of a run of bytes: 1 to 4, the fewest."""
+    x = int.from_bytes(data, "little")
+    fault_if(len(data) > 4 or fewest(x) != len(data))
+    return x
+
+def read_direct(body, n):
+    """The list of a directly addressed body, by all the rules."""
+    bits, spare, sums, data, left_over, _ = direct_parts(body)
+    fault_if(sum(bits) != n)                            # as many ones as the count
+    fault_if(len(bits) > 0 and bits[-1] != 1)           # the last data byte ends a number
+    fault_if(any(spare))                                # spare bits are 0
+    for i, told in enumerate(sums):                     # a false sum is a fault
+        fault_if(told != sum(bits[:STRETCH * (i + 1)]))
+    numbers, begin = [], 0
+    for i, bit in enumerate(bits):
+        if bit == 1:
+            numbers.append(direct_number(data[begin:i + 1]))
+            begin = i + 1
+    fault_if(len(left_over) > 0)                        # the body fills its length exactly
+    return numbers
+
+def lookup_direct(parts, place):
+    """The number at a place, by the sums that are found.  Of the bits it looks at a stretch's and at
+    the four before it, of the sums at none after the stretch's, of the data at the number's."""
+    bits, _, sums, data, _, ends = parts
+    stretch, base = 0, 0                                # base: what the stretch before says
+    while stretch < len(sums) and sums[stretch] <= place:       # the first whose sum is above
+        base = sums[stretch]
+        stretch += 1                                    # else the bits after the last sum
+    fault_if(place - base >= len(ends[stretch]))        # the stretch lacks that end bit
+    end = begin = ends[stretch][place - base]
+    while begin > 0 and bits[begin - 1] == 0:           # back to the end of the number before
+        begin -= 1
+        fault_if(end - begin == 4)                      # a run of more than 4 bytes
+    return direct_number(data[begin:end + 1])
+
 def read_code(code, body, n):
     """The list of a body, by all the rules."""
+    if code == DIRECT:
+        return read_direct(body, n)
     at, taken = first_unit(code, body, n), []
     for numbers, at in units(code, body, n):
         taken.append(numbers)
@@ -278,7 +357,7 @@ def read_code(code, body, n):
 
 def lookup_code(code, body, n, place):
     """Units from the first through the one that holds the place; nothing after.
-    (Decision 7: so the fit into the block before is never asked.)"""
+    (Decision 7: so the fit into the block before is never asked.)  In code 8 that one alone."""
     return lookup_plan((code,), body, n, place)
 
 # ------------------------------------------------------------ plans
@@ -338,6 +417,7 @@ def worst_tree(tree, n):
     grouped = 4 * n + up(n, 4)
     alone = {VBYTE: 5 * n, GROUPS: grouped, STREAM: grouped, FOURWISE: grouped,
              G8IU: up(n, 2) * 9, GAMMA: up(65 * n, 8), DELTA: up(43 * n, 8),
+             DIRECT: 4 + up(n, 2) + 2 * (n // 128) + 4 * n,
              REFERENCE: 4, DIFFERENCES: 0, RUNS: 8}
     return alone[tree[0]] + sum(worst_tree(inner, n) for inner in tree[1:])
 
@@ -390,24 +470,40 @@ def read_plan(tree, body, n):
     fault_if(sum(lengths) != n)                                 # lengths sum to the count
     return [x for x, length in zip(values, lengths) for _ in range(length)]
 
+def or_none(f, *args):
+    """The answer of f, or None for a fault that is one place's alone."""
+    try:
+        return f(*args)
+    except Refused:
+        return None
+
+def asked(x):
+    """What a lookup asks a place for: the place must not be at fault."""
+    fault_if(x is None)
+    return x
+
 def in_turn(tree, body, n):
     """What lookups find at places 0, 1, 2 and so on, in turn, up to the first fault in a unit,
-    a header or a run; nothing after the unit that holds the place has then been looked at.
+    a header or a run, from which on every place is at fault; nothing after the unit that holds
+    the place has then been looked at.  In code 8 a place may be at fault alone: that is None.
     Sums above 2^32 - 1 are handed on as they are: every sum they enter is above it too, and
     the lookup that asks for one refuses it (decision 8: only at the place asked)."""
     what = tree[0]
-    if what in CODES:
+    if what == DIRECT:                              # place by place
+        parts = direct_parts(body)
+        yield from (or_none(lookup_direct, parts, place) for place in range(n))
+    elif what in CODES:
         for numbers, _ in units(what, body, n):
             yield from numbers
     elif what == REFERENCE:                         # reference adds
         least = header(body, 0)
-        yield from (least + x for x in in_turn(tree[1], body[4:], n))
+        yield from (None if x is None else least + x for x in in_turn(tree[1], body[4:], n))
     elif what == DIFFERENCES:                       # differences add up the inner places
-        yield from accumulate(in_turn(tree[1], body, n))
+        yield from accumulate(map(asked, in_turn(tree[1], body, n)))
     else:                                           # runs add inner lengths
         runs, values_body, lengths_body = run_parts(body, n)
         values, total = in_turn(tree[1], values_body, runs), 0
-        for length in in_turn(tree[2], lengths_body, runs):
+        for length in map(asked, in_turn(tree[2], lengths_body, runs)):
             total += length
             fault_if(length == 0 or total > n)      # a zero length, a sum above the count
             yield from length * [next(values)]
@@ -417,7 +513,9 @@ def lookup_plan(tree, body, n, place):
     """The number at a place of a body of n numbers by a plan."""
     if place >= n:
         raise Refused(6)
-    return held(next(islice(in_turn(tree, body, n), place, None)))
+    if tree[0] == DIRECT:                           # nothing before it is asked
+        return lookup_direct(direct_parts(body), place)
+    return held(asked(next(islice(in_turn(tree, body, n), place, None))))
 
 # ------------------------------------------------------------ the sheet
 
@@ -560,6 +658,28 @@ def board(sheet, work_len):
         raise Refused(12)
     killed = endings.count(124)             # request P2: for 124 alone, and failed is 1 to 255 without it
     return endings.count(0), len([x for x in endings if 1 <= x <= 255]) - killed, killed, endings.count(256)
+
+# ------------------------------------------------------------ rank and select (request P4)
+
+def slice_bits(data):
+    """The bits of a lent slice; 1 above 65,536 bytes."""
+    if len(data) > MOST_SHEET:
+        raise Refused(1)
+    return bits_of(data)
+
+def rank(data, bit):
+    """The ones before a bit, 0 through the number of bits.  Refuses 1; 6."""
+    bits = slice_bits(data)
+    if bit > len(bits):
+        raise Refused(6)
+    return sum(bits[:bit])
+
+def select(data, k):
+    """The bit of the k-th one, from 0.  Refuses 1; 6."""
+    ones = [i for i, bit in enumerate(slice_bits(data)) if bit == 1]
+    if k >= len(ones):
+        raise Refused(6)
+    return ones[k]
 
 # ------------------------------------------------------------ the two programs
 

@@ -1,6 +1,6 @@
 """Random self-consistency of the reading: what is written is read back, what is read is written
 back byte for byte, lookups agree with reading, sizes keep to the worst size, also on damage, all of
-it in both editions.
+it in both editions; and the laws of rank and select.
 
     python3 selfcheck.py [rounds] [seed]
 
@@ -27,6 +27,12 @@ MUST_MEET = {"%s in edition %d" % case for case in product(
 MUST_MEET |= {"equal neighbours written in edition 1", "refused 10: equal neighbours in edition 2",
               "edition 1 as 2: refused 9", "edition 1 as 2: passed", "edition 2 as 1: passed",
               "written in another edition: 11", "damaged sheet refused 1 in another edition"}
+DIRECT_WAYS = ("false sum", "falling sums", "bit turned", "end moved", "spare bit", "longer", "five bytes",
+               "another length told", "cut", "left over")
+MUST_MEET |= {"direct bodies with " + way for way in DIRECT_WAYS}
+MUST_MEET |= {"direct lists of full stretches", "direct lists with bits after a sum",
+              "direct lookups sent to another number", "direct lookups refused", "direct lookups unchanged",
+              "direct places at fault alone under 16", "direct places at fault alone under 18"}
 differ = 0
 seen = {}
 
@@ -153,6 +159,8 @@ def loose(tree, numbers):
                 block.pop()
             body += r.write_code(r.G8IU, block)
             at += len(block)
+    elif tree[0] == r.DIRECT:
+        body = loose_direct(numbers)
     elif tree[0] in r.CODES:
         body = r.write_code(tree[0], numbers)
         if tree[0] in (r.GAMMA, r.DELTA) and body and rnd.random() < 0.5:
@@ -178,10 +186,94 @@ def loose(tree, numbers):
     return body + (bytes(rnd.randrange(3)) if rnd.random() < 0.1 else b"")
 
 
+# ------------------------------------------------------------ directly addressed bodies
+
+def parts_of(numbers):
+    """The bits and the data bytes of a list."""
+    bits, data = [], bytearray()
+    for x in numbers:
+        bits += (r.fewest(x) - 1) * [0] + [1]
+        data += x.to_bytes(r.fewest(x), "little")
+    return bits, data
+
+
+def true_sums(bits):
+    return [sum(bits[:end]) for end in range(512, len(bits) + 1, 512)]
+
+
+def direct_body(bits, sums, data, spare=()):
+    """A body as it stands."""
+    return (r.u32(len(data)) + r.low_first(list(bits) + list(spare)) + b"".join(x.to_bytes(2, "little") for x in sums)
+            + bytes(data))
+
+
+def spare_of(bits):
+    """Bits to spare, any."""
+    return [rnd.randrange(2) for _ in range(-len(bits) % 8)]
+
+
+def loose_direct(numbers):
+    """A directly addressed body in which every lookup finds its number: with spare bits, numbers beyond
+    the count, bytes that end none, and the last sum too large where no bits come after."""
+    bits, data = parts_of(numbers + [random_number() for _ in range(rnd.choice((0, 0, 0, 1, 2)))])
+    more = rnd.choice((0, 0, 0, 1, 7, 8))
+    bits, data = bits + more * [0], data + bytes(rnd.randrange(256) for _ in range(more))
+    sums = true_sums(bits)
+    if sums and len(bits) % 512 == 0 and rnd.random() < 0.5:
+        sums[-1] += rnd.randint(1, 60000)
+    return direct_body(bits, sums, data, spare_of(bits) if rnd.random() < 0.3 else ())
+
+
+def standing(body, place):
+    """Where a lookup in a directly addressed body finds its number, by rank and select over the bits: the
+    stretch, and the number's first and last data byte."""
+    many = r.header(body, 0)
+    sums_at, full = 4 + (many + 7) // 8, many // 512
+    r.fault_if(sums_at + 2 * full + many > len(body))
+    flags = body[4:sums_at]
+    sums = [body[sums_at + 2 * i] + 256 * body[sums_at + 2 * i + 1] for i in range(full)]
+    stretch = min([i for i, told in enumerate(sums) if told > place], default=full)
+    base = sums[stretch - 1] if stretch else 0
+    try:
+        end = r.select(flags, r.rank(flags, 512 * stretch) + place - base)
+    except r.Refused:
+        raise r.Refused(9)
+    r.fault_if(end >= min(512 * stretch + 512, many))
+    before = r.rank(flags, end)
+    begin = r.select(flags, before - 1) + 1 if before else 0
+    r.fault_if(end - begin > 3)
+    return stretch, begin, end
+
+
+def literal_direct(body, place):
+    """A lookup in a directly addressed body."""
+    _, begin, end = standing(body, place)
+    many = r.header(body, 0)
+    data = body[4 + (many + 7) // 8 + 2 * (many // 512):]
+    x = sum(byte << (8 * i) for i, byte in enumerate(data[begin:end + 1]))
+    r.fault_if(begin < end and x < 256**(end - begin))
+    return x
+
+
+def elsewhere(body, place):
+    """The body with all else changed: bits but the stretch's and the four before it, spare bits, sums after
+    its own, data but the number's; sums before the one before say anything up to the place."""
+    stretch, begin, end = standing(body, place)
+    bits, _, sums, data, *_ = r.direct_parts(body)
+    first = 512 * stretch
+    bits = [bit if first - 4 <= i < first + 512 else rnd.randrange(2) for i, bit in enumerate(bits)]
+    sums = [told if i in (stretch - 1, stretch) else rnd.randint(0, place if i < stretch else 65535)
+            for i, told in enumerate(sums)]
+    data = [byte if begin <= i <= end else rnd.randrange(256) for i, byte in enumerate(data)]
+    return direct_body(bits, sums, data, spare_of(bits))
+
+
 # ------------------------------------------------------------ the lookup in the document's words
 
 def literal(tree, body, n, place):
     """A lookup, each inner place asked for alone."""
+    if tree[0] == r.DIRECT:
+        return literal_direct(body, place)
     if tree[0] in r.CODES:
         before = 0
         for numbers, _ in r.units(tree[0], body, n):
@@ -225,7 +317,11 @@ def lookups(tree, body, n, numbers):
         if got != ("refused", 9):       # nothing after is looked at
             more = body + bytes(rnd.randrange(256) for _ in range(3))
             same("lookup, more after", of(r.lookup_plan, tree, more, n, place), got, tree, body, n)
-            if tree[0] in r.CODES:
+            if tree[0] == r.DIRECT:
+                count("direct lookups unchanged")
+                same("lookup, changed elsewhere", of(r.lookup_plan, tree, elsewhere(body, place), n, place), got,
+                     body, n, place)
+            elif tree[0] in r.CODES:
                 same("lookup, cut after", of(r.lookup_plan, tree, cut_after(tree[0], body, n, place),
                                              n, place), got, tree, body, n, place)
     same("lookup at n", of(r.lookup_plan, tree, body, n, n), ("refused", 6), tree, body, n)
@@ -325,14 +421,139 @@ def round_batches():
          whole, n)
 
 
+def direct_list():
+    """Numbers with about as many data bytes as fill one to three stretches, often exactly so many."""
+    room = rnd.choice((511, 512, 513, 1023, 1024, 1025, 1536, rnd.randrange(300, 1700)))
+    sizes, numbers = rnd.choice(((1,), (1, 2), (2,), (4,), (1, 2, 3, 4))), []
+    while room > 0 and len(numbers) < 1024:
+        size = min(room, rnd.choice(sizes))
+        numbers.append(rnd.randrange(256**(size - 1) if size > 1 else 0, 256**size))
+        room -= size
+    return numbers
+
+
+def broken_direct(numbers, way):
+    """A directly addressed body with one rule broken; of "end moved" it may be that none is."""
+    bits, data = parts_of(numbers)
+    sums, at, spare, told = true_sums(bits), rnd.randrange(len(bits)), [], None
+    if way in ("false sum", "falling sums"):
+        i = rnd.randrange(len(sums))
+        others = (0, sums[i] - 1, sums[i] + 1, len(numbers), 65535, rnd.randrange(1024))
+        sums[i] = rnd.choice([x for x in others if 0 <= x != sums[i]])
+        if way == "falling sums":
+            sums = sorted(set(sums + [rnd.randrange(1024), 65535]), reverse=True)[:len(sums)]
+    elif way == "bit turned":                       # the sums as they were, or true again
+        bits[at] = 1 - bits[at]
+        sums = rnd.choice((sums, true_sums(bits)))
+    elif way == "end moved":
+        ends = [i for i, bit in enumerate(bits) if bit == 1]
+        at = rnd.choice(ends)
+        bits[at] = 0
+        bits[max(0, min(len(bits) - 1, at + rnd.choice((-3, -2, -1, 1, 2, 3))))] = 1
+        sums = rnd.choice((sums, true_sums(bits)))
+    elif way == "spare bit":
+        bits, data = parts_of(numbers + (len(bits) % 8 == 0) * [7])
+        sums, spare = true_sums(bits), spare_of(bits)
+        spare[rnd.randrange(len(spare))] = 1
+    elif way in ("longer", "five bytes"):           # a byte of 0 more, or five of any but 0
+        ends = [-1] + [i for i, bit in enumerate(bits) if bit == 1]
+        i = rnd.randrange(1, len(ends))
+        begin, end = ends[i - 1] + 1, ends[i] + 1
+        run = data[begin:end] + b"\0" if way == "longer" else bytes(rnd.randint(1, 255) for _ in range(5))
+        bits[begin:end], data[begin:end] = (len(run) - 1) * [0] + [1], run
+        sums = true_sums(bits)
+    elif way == "another length told":
+        told = rnd.choice((len(bits) - 1, len(bits) + 1, len(bits) + 8, max(0, len(bits) - 512), len(bits) + 512, 0,
+                           2**32 - 1, 2**32 - rnd.randrange(1, 700), 2**31 + len(bits), 2**29,
+                           (2**32 + rnd.randrange(len(bits))) * 256 // 289))    # the parts' end passes 2^32 by little
+    body = direct_body(bits, sums, data, spare)
+    if told is not None:
+        body = r.u32(told) + body[4:]
+    if way == "cut":
+        return body[:-rnd.choice((1, 1, 2, 9))]
+    return body + bytes(rnd.choice((1, 1, 2, 9))) if way == "left over" else body
+
+
+def round_direct():
+    """A long directly addressed list: written and looked up, loose, then with a rule broken."""
+    numbers = direct_list()
+    n, tree = len(numbers), (r.DIRECT,)
+    body, (bits, data) = r.write_code(r.DIRECT, numbers), parts_of(numbers)
+    asked = {0, n - 1, *(rnd.randrange(n) for _ in range(4))}
+    asked |= {max(0, min(n - 1, told + more)) for told in true_sums(bits) for more in (-1, 0, 1)}
+    count("direct lists of full stretches" if len(bits) % 512 == 0 else "direct lists with bits after a sum")
+    same("direct written", body, direct_body(bits, true_sums(bits), data), numbers)
+    same("direct read back", of(r.read_code, r.DIRECT, body, n), numbers, body)
+    for place in sorted(asked):
+        same("direct lookup", of(r.lookup_code, r.DIRECT, body, n, place), numbers[place], body, place)
+    slack = loose_direct(numbers)
+    lookups(tree, slack, n, numbers)
+    same("direct loose read", of(r.read_code, r.DIRECT, slack, n), numbers if slack == body else ("refused", 9), slack)
+    way = rnd.choice(DIRECT_WAYS if len(bits) >= 512 else DIRECT_WAYS[2:])
+    count("direct bodies with " + way)
+    body = broken_direct(numbers, way)
+    got = of(r.read_code, r.DIRECT, body, n)
+    if way == "end moved" and isinstance(got, list):
+        same("direct written back", r.write_code(r.DIRECT, got), body, n)
+    else:
+        same("direct refused", got, ("refused", 9), way, body, n)
+    for place in sorted(asked):
+        found = of(r.lookup_code, r.DIRECT, body, n, place)
+        same("direct looked up", found, of(literal_direct, body, place), way, body, place)
+        if found == ("refused", 9):
+            count("direct lookups refused")
+        elif found != numbers[place]:
+            count("direct lookups sent to another number")
+
+
+def round_below():
+    """A short directly addressed list with a rule broken, under stages: a lookup at every place."""
+    numbers, way = random_list(0, rnd.randint(1, 7)), rnd.choice(DIRECT_WAYS[2:])
+    lengths, direct, other = [rnd.choice((1, 1, 2, 3)) for _ in numbers], (r.DIRECT,), (rnd.choice(r.CODES),)
+    runs, n, broken = r.u32(len(numbers)), len(numbers), broken_direct(numbers, way)
+    tree, body = direct, broken
+    if rnd.random() < 0.4:
+        tree, body = (16, direct), r.u32(rnd.choice((0, 7, MAX))) + broken
+    if rnd.random() < 0.4:
+        tree, body = (18, tree, other), runs + r.u32(len(body)) + body + r.write_code(other[0], lengths)
+        n = sum(lengths)
+    elif rnd.random() < 0.3:
+        body = r.write_code(other[0], numbers)
+        tree, body = (18, other, direct), runs + r.u32(len(body)) + body + broken_direct(lengths, way)
+        n = sum(lengths)
+    if rnd.random() < 0.3:
+        tree = 17, tree
+    found = [of(r.lookup_plan, tree, body, n, place) for place in range(n)]
+    same("below stages", found, [of(literal, tree, body, n, place) for place in range(n)], tree, body, n)
+    if ("refused", 9) in found and any(isinstance(x, int) for x in found[found.index(("refused", 9)):]):
+        count("direct places at fault alone under %d" % tree[0])
+
+
+def round_bits():
+    """The laws of rank and select over a slice."""
+    data = bytes(rnd.choice((0, 255, rnd.randrange(256), 1 << rnd.randrange(8))) for _ in range(rnd.randrange(20)))
+    bits, ones = 8 * len(data), 0
+    for bit in range(bits):
+        is_one = data[bit // 8] >> bit % 8 & 1
+        same("rank", of(r.rank, data, bit), ones, data, bit)
+        if is_one:                                  # each undoes the other
+            same("select of rank", of(r.select, data, r.rank(data, bit)), bit, data, bit)
+            same("rank of select", r.rank(data, r.select(data, ones)), ones, data, bit)
+        ones += is_one
+    same("rank at the end", of(r.rank, data, bits), ones, data)
+    for more in (1, 2**32, 2**64):
+        same("rank after the end", of(r.rank, data, bits + more), ("refused", 6), data)
+        same("select after the last", of(r.select, data, ones + more - 1), ("refused", 6), data)
+
+
 def round_plan():
     """Plan bytes: well formed means the tree spelt again."""
-    plan = bytes(rnd.choice((0, 1, 2, 3, 4, 5, 6, 7, 8, 16, 17, 18, 18, 19, 255))
+    plan = bytes(rnd.choice((0, 1, 2, 3, 4, 5, 6, 7, 8, 9, 16, 17, 18, 18, 19, 255))
                  for _ in range(rnd.choice((1, 2, 3, 4, 5, 7, 15))))
     plan += bytes(15 - len(plan))
     if rnd.random() < 0.7:              # a plan with one byte changed
         plan = bytearray(fill(random_tree(1)))
-        plan[rnd.randrange(6)] = rnd.choice((0, 1, 3, 5, 6, 7, 8, 16, 17, 18, rnd.randrange(256)))
+        plan[rnd.randrange(6)] = rnd.choice((0, 1, 3, 5, 6, 7, 8, 9, 16, 17, 18, rnd.randrange(256)))
         plan = bytes(plan)
     tree = of(r.parse_plan, plan)
     if tree == ("refused", 3):
@@ -518,6 +739,10 @@ for i in range(ROUNDS):
         round_plan()
         round_batches()
         round_editions()
+        round_below()
+        if i % 40 == 7:
+            round_direct()
+            round_bits()
     else:
         round_sheet()
 for code in r.CODES:            # the longest lists, the worst numbers

@@ -20,14 +20,15 @@ import generate
 import machine
 import reading as r
 
-NAMES = ("judge", "worst", "write", "check", "read", "lookup", "fetch", "board")
+NAMES = ("judge", "worst", "write", "check", "read", "lookup", "fetch", "board", "rank", "select")
+ALONE = ("judge", "worst", "rank", "select")           # what has no edition
 REQUEST, RESULT = struct.Struct("<IIQQII4I"), struct.Struct("<II5QQ")
 TROUBLE = {1: "an input changed", 2: "bytes before a slice changed", 4: "stopped by a signal (its number)"}
 CHUNK, SHOWN, ENOUGH = 1000, 5, 2000       # operations a driver; differences shown; when to stop
 SURE = 100000                              # operations that meet all of what can be met
 NUMBERS = {"judge": (0, 3, 4, 11), "worst": (0, 3, 11), "write": (0, 3, 4, 7, 8, 10, 11),
            "check": (0, 1, 2, 3, 4, 8, 9), "read": (0, 1, 2, 3, 4, 5, 7, 8, 9), "lookup": (0, 1, 2, 3, 4, 5, 6, 9),
-           "fetch": (0, 1, 2, 3, 4, 5), "board": (0, 1, 2, 3, 4, 8, 9, 12)}
+           "fetch": (0, 1, 2, 3, 4, 5), "board": (0, 1, 2, 3, 4, 8, 9, 12), "rank": (0, 1, 6), "select": (0, 1, 6)}
 NO_EDITION, OTHER, EQUAL = "", "other", "equal"       # EQUAL: the editions part here, at equal neighbours of kind 1
 
 Result = collections.namedtuple("Result", "number trouble answers out")
@@ -60,6 +61,8 @@ def answered(op):
         return (r.lookup(first, a, b),), b""
     if op.what == "fetch":
         return r.fetch(first, a), b""
+    if op.what in ("rank", "select"):
+        return ({"rank": r.rank, "select": r.select}[op.what](first, a),), b""
     return (0,) + r.board(first, op.work), b""
 
 
@@ -74,7 +77,7 @@ def expected(op):
 
 def edition_of(op):
     """1, 2 or another, of an operation that has an edition."""
-    if op.what in ("judge", "worst"):
+    if op.what in ALONE:
         return NO_EDITION
     told = op.a if op.what == "write" else op.inputs[0][0] if op.inputs[0] else 0
     return told if told in r.EDITIONS else OTHER
@@ -100,7 +103,7 @@ def met_by(op, number):
 def to_meet():
     """All that has to be met."""
     for name, numbers in NUMBERS.items():
-        if name in ("judge", "worst"):
+        if name in ALONE:
             yield from ((name, NO_EDITION, number, "") for number in numbers)
             continue
         yield from ((name, edition, number, "") for edition in r.EDITIONS for number in numbers)

@@ -3,7 +3,7 @@
 from itertools import groupby
 
 import reading as r
-from draw import MAX, OTHER_EDITIONS, bad_plan, chance, rnd, word
+from draw import MAX, OTHER_EDITIONS, bad_plan, chance, number, rnd, word
 
 # ------------------------------------------------------------ bodies with one rule broken
 
@@ -131,6 +131,99 @@ def as_others_write(batches):
     return body
 
 
+def direct_parts(some):
+    """A directly addressed list's bits, sums and data."""
+    bits, data = [], bytearray()
+    for x in some:
+        bits += (r.fewest(x) - 1) * [0] + [1]
+        data += x.to_bytes(r.fewest(x), "little")
+    return bits, sums_of(bits), data
+
+
+def sums_of(bits):
+    return [sum(bits[:end]) for end in range(512, len(bits) + 1, 512)]
+
+
+def direct_body(told, bits, sums, data):
+    """The parts as they stand; `bits` may have spare ones."""
+    return word(told) + r.low_first(bits) + b"".join((x % 65536).to_bytes(2, "little") for x in sums) + bytes(data)
+
+
+def loose_direct(some):
+    if not some:
+        return rnd.choice((b"", b"\0", bytes(3), bytes(4), bytes(5), b"\1\0\0\0\1\5", b"\1\0\0\0\0\5", b"\0\0\0\0\1\5",
+                           4 * b"\xff"))
+    bits, sums, data = direct_parts(some)
+    many, way = len(bits), 0 if sums and chance(40) else rnd.randint(1, 10)
+    at = rnd.choice((rnd.randrange(many), many - 1))
+    if way == 0:                                                # false, equal or falling sums
+        i = rnd.randrange(len(sums))
+        sums[i] = rnd.choice((sums[i] - 1, sums[i] + 1, 0, 1, sums[i - 1], len(some), len(some) - 1, 65535, rnd.randrange(1100)))
+        if chance(30):
+            sums.reverse()
+    elif way <= 2:                                              # a bit turned, or moved, the sums as they were or true
+        bits[at] ^= 1
+        if way == 2:
+            bits[max(0, at - rnd.randint(1, 5))] ^= 1
+        sums = rnd.choice((sums, sums_of(bits)))
+    elif way == 3:                                              # spare bits, and perhaps the last one no end
+        bits[-1] = rnd.randrange(2)
+        bits += [1 if i == 0 else rnd.randrange(2) for i in range(-many % 8)]
+    elif way == 4:                                              # longer than needed, or than four bytes
+        ends = [-1] + [i for i, bit in enumerate(bits) if bit]
+        i = rnd.choice((1, rnd.randrange(1, len(ends)), len(ends) - 1))
+        begin, end = ends[i - 1] + 1, ends[i] + 1
+        run = data[begin:end] + bytes(rnd.randint(1, 4))
+        if chance(60):
+            run = bytes(rnd.randint(1, 255) for _ in range(rnd.choice((5, 5, 6, 9))))
+        bits[begin:end], data[begin:end] = (len(run) - 1) * [0] + [1], run
+        many, sums = len(bits), sums_of(bits)
+    elif way == 5:                                              # numbers beyond the count, or bytes that end none
+        more, _, after = direct_parts([number()] if chance(50) else [])
+        loose = rnd.choice((0, 0, 1, 4, 9))
+        bits, data = bits + more + loose * [0], data + after + bytes(loose)
+        many, sums = len(bits), sums_of(bits)
+    elif way == 6:                                              # fewer than the count
+        cut = rnd.randrange(many)
+        bits, data = bits[:cut], data[:cut]
+        many, sums = cut, sums_of(bits)
+    elif way == 7:                                              # another length told
+        many = rnd.choice((many - 1, many + 1, many - 8, many + 8, many - 512, many + 512, 0, 512, 2**31, 2**29, MAX,
+                           MAX - 3, MAX - rnd.randrange(700), 2**32 - 4 - many // 8, many + 2**16, many + 2**29,
+                           (2**32 + rnd.randrange(many + 9)) * 256 // 289))     # the parts' end passes 2^32 by little
+    elif way == 8:                                              # the body ends inside a part, or goes on
+        body = direct_body(many, bits, sums, data)
+        return rnd.choice((body[:-1], body[:rnd.randrange(len(body))], body + b"\0", body + bytes(rnd.randint(1, 9))))
+    elif way == 9:
+        return direct_as_others(many, bits, sums, data)
+    else:                                                       # a data byte of 0
+        data[at] = 0
+    return direct_body(many, bits, sums, data)
+
+
+def direct_as_others(many, bits, sums, data):
+    """Bits highest first; ends told by 0; sums of the ones before alone, for the rest too, left out, highest byte first,
+    after the data; the data's highest byte first."""
+    way = rnd.randrange(8)
+    if way == 0:
+        bits = [bit for first in range(0, many, 8) for bit in reversed((bits[first:first + 8] + 7 * [0])[:8])]
+    elif way == 1:
+        bits = [1 - bit for bit in bits]
+    elif way == 2:
+        sums = [0] + sums[:-1] if sums else sums
+    elif way == 3:
+        sums = sums + [sum(bits)]
+    elif way == 4:
+        sums = sums[:-1]
+    elif way == 5:
+        sums = [x % 256 * 256 + x // 256 for x in sums]
+    elif way == 6:
+        return word(many) + r.low_first(bits) + bytes(data) + b"".join(x.to_bytes(2, "little") for x in sums)
+    else:
+        data = data[::-1]
+    return direct_body(many, bits, sums, data)
+
+
 def loose_elias(code, some):
     write = r.gamma_bits if code == r.GAMMA else r.delta_bits
     words_, at = [write(x + 1) for x in some], rnd.randrange(len(some))
@@ -189,6 +282,8 @@ def loosely(t, some):
         return loosely(t[1], [x - before for before, x in zip([0] + some, some)])
     if t[0] == r.RUNS:
         return loose_runs(t, some)
+    if t[0] == r.DIRECT:
+        return loose_direct(some)
     if not some:
         return rnd.choice((b"", b"\0", b"\1"))
     if t[0] == r.VBYTE:

@@ -72,6 +72,21 @@ def numbers(kind, n, edition=1):
     return doubled(apart(found)) if chance(10) else apart(found)
 
 
+def of_size(size):
+    """A number that takes so many bytes."""
+    return rnd.randrange(256**(size - 1) if size > 1 else 0, 256**size)
+
+
+def stretched():
+    """Numbers whose data bytes fill one or two stretches of code 8 exactly, or nearly, or some way on; not over 1,024."""
+    room = rnd.choice((511, 512, 512, 513, 516, 1023, 1024, 1024, 1025, rnd.randrange(480, 1700)))
+    sizes, found = rnd.choice(((1,), (1, 2), (2,), (2, 3), (4,), (1, 2, 3, 4))), []
+    while room > 0 and len(found) < r.MOST_COUNT:
+        found.append(of_size(min(room, rnd.choice(sizes))))
+        room -= r.fewest(found[-1])
+    return found
+
+
 def tree(kind, depth=4, judged=True):
     """A plan that passes for the kind, or that may not."""
     stage = rnd.choice((0, 16, 17, 18, 18) if depth < 4 else (0, 0, 0, 16, 17, 18)) if depth > 1 else 0
@@ -101,7 +116,7 @@ def bad_plan():
         return filled(text((17, tree(0, 3, False)) if chance(40) else tree(0, rnd.choice((4, 5)), False)))
     some = bytearray(text(tree(rnd.randrange(2))))
     for _ in range(rnd.choice((0, 1, 1, 2))):
-        some[rnd.randrange(len(some))] = rnd.choice((0, 1, 6, 7, 8, 15, 16, 17, 18, 19, 128, 255))
+        some[rnd.randrange(len(some))] = rnd.choice((0, 1, 7, 8, 9, 15, 16, 17, 18, 19, 128, 255))
     if chance(20):
         some = bytes(rnd.choice((1, 3, 16, 17, 18)) for _ in range(rnd.randint(1, 15)))
     some = bytearray(filled(bytes(some)))

@@ -11,16 +11,16 @@
 #include <sys/mman.h>
 #include <sys/time.h>
 
-enum { JUDGE, WORST, WRITE, CHECK, READ, LOOKUP, FETCH, BOARD };
+enum { JUDGE, WORST, WRITE, CHECK, READ, LOOKUP, FETCH, BOARD, RANK, SELECT };
 enum { INPUTS = 4, WORK = INPUTS, OUT, ANSWER, ANSWERS = 5, SLOTS = ANSWER + ANSWERS };
 enum { ROOM = 1 << 20, PAGE = 1 << 16, BEFORE = 64, SECONDS = 10 };
 enum { INPUT_CHANGED = 1, BEFORE_CHANGED = 2, SIGNALLED = 4 };
 
 struct request {                    // then the inputs, each of so many bytes
     uint32_t operation, fill;
-    uint64_t a, b;                  // judge: kind; worst: n; write: edition; column and place
+    uint64_t a, b;                  // judge: kind; worst: n; write: edition; rank: bit; select: k; column and place
     uint32_t work, out;             // work's numbers, the output's bytes
-    uint32_t input[INPUTS];         // the plan; kinds, plans, counts and joined; or the sheet
+    uint32_t input[INPUTS];         // the plan; kinds, plans, counts and joined; the slice of bits; or the sheet
 };
 
 struct result {                     // then the output's bytes
@@ -61,7 +61,7 @@ static void *lend(int slot, size_t bytes, int fill)
 
 static size_t answer_bytes(uint32_t operation, int i)
 {
-    static const int answers[] = {[JUDGE] = 0, 1, 1, 1, 1, 1, 2, 5};
+    static const int answers[] = {[JUDGE] = 0, 1, 1, 1, 1, 1, 2, 5, 1, 1};
     return i >= answers[operation] ? 0 : operation == LOOKUP ? sizeof(uint32_t) : sizeof(size_t);
 }
 
@@ -77,6 +77,8 @@ static uint32_t call(const struct request *q, void **in, uint32_t *work, void *o
     case READ: return pelluvion_read(in[0], bytes[0], q->a, work, q->work, out, q->out / 4, answer[0]);
     case LOOKUP: return pelluvion_lookup(in[0], bytes[0], q->a, q->b, answer[0]);
     case FETCH: return pelluvion_fetch(in[0], bytes[0], q->a, answer[0], answer[1]);
+    case RANK: return pelluvion_rank(in[0], bytes[0], q->a, answer[0]);
+    case SELECT: return pelluvion_select(in[0], bytes[0], q->a, answer[0]);
     default: return pelluvion_board(in[0], bytes[0], work, q->work, answer[0], answer[1], answer[2], answer[3], answer[4]);
     }
 }

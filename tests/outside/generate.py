@@ -2,14 +2,19 @@
 ones, with lengths around their exact boundaries.  The reading (../reading.py) writes the good bodies, judges nothing."""
 
 from collections import namedtuple
+from itertools import accumulate
 
 import reading as r
 from damage import damaged_body, damaged_table, loosely, other_edition
-from draw import MAX, OTHER_EDITIONS, bad_plan, chance, count, doubled, filled, near, numbers, rnd, text, tree, words
+from draw import (MAX, OTHER_EDITIONS, bad_plan, chance, count, doubled, filled, near, numbers, rnd, stretched, text, tree,
+                  words)
 
-# inputs: four `bytes`; a, b: kind, n, edition, column, place; work counts numbers, out bytes; fill: what is there before.
+# inputs: four `bytes`; a, b: kind, n, edition, column, place, bit, k; work counts numbers, out bytes; fill: what is there before.
 Operation = namedtuple("Operation", "what inputs a b work out fill")
 HUGE = (2**31, 2**32, 2**63, 2**64 - 1, 2**64 // 24 + 1, 2**62 + 1)
+DIRECT = [r.parse_plan(filled(bytes(plan))) for plan in 8 * ((8,),) + 4 * ((17, 8),) + (
+    (16, 8), (17, 16, 8), (18, 8, 1), (18, 8, 1), (18, 1, 8), (18, 1, 8), (18, 8, 8), (18, 16, 8, 1), (18, 17, 8, 1),
+    (17, 18, 8, 1), (17, 18, 1, 8), (16, 18, 8, 8), (18, 18, 8, 8, 8), (18, 8, 18, 8, 8))]
 
 
 def operation(what, inputs, a=0, b=0, work=0, out=0):
@@ -138,6 +143,60 @@ def on_a_body():
     yield operation("lookup", [made], 0, rnd.randint(0, len(some)))
 
 
+def sums_told(t, body):
+    """What the sums of a body say, wherever code 8 stands in its plan, as far as the parts are there."""
+    if t[0] == r.REFERENCE:
+        return sums_told(t[1], body[4:])
+    if t[0] == r.DIFFERENCES:
+        return sums_told(t[1], body)
+    if t[0] == r.RUNS:
+        end = 8 + int.from_bytes(body[4:8], "little")
+        return sums_told(t[1], body[8:end]) + sums_told(t[2], body[end:])
+    many = int.from_bytes(body[:4], "little") if t[0] == r.DIRECT else 0
+    at = 4 + r.up(many, 8)
+    return [int.from_bytes(body[i:i + 2], "little") for i in range(at, min(at + 2 * (many // 512), len(body)), 2)]
+
+
+def on_direct():
+    """Code 8 alone and under stages, often with full stretches, as written or with a rule broken; the body ends where
+    the slice does.  Places: the first, the last, some, and those about what the sums say."""
+    t, edition, some = rnd.choice(DIRECT), rnd.choice(r.EDITIONS), stretched() if chance(50) else numbers(0, count())
+    kind = int(r.DIFFERENCES in text(t))
+    if t[0] == r.DIFFERENCES or kind and chance(50):        # the differences are as drawn, as far as they go
+        some = [x for x in accumulate(some) if x <= MAX]
+    elif kind:
+        some.sort()
+    n, body, way = len(some), r.write_plan(t, some), rnd.randrange(4)
+    if way:
+        body = loosely(t, some) if way < 3 else damaged_body(t, some, body)
+    made = assemble(edition, [(kind, filled(text(t)), n, body)])
+    yield operation("check", [made], work=8 * n)
+    yield operation("read", [made], 0, work=near(7 * n), out=4 * near(n))
+    if chance(30):
+        yield operation("write", [bytes([kind]), filled(text(t)), words([n]), words(some)], edition, work=7 * n,
+                        out=near(len(made)))
+    places = [rnd.randrange(n) for _ in range(2)] + [0, n - 1, n] if n else [0]
+    places += [place for told in sums_told(t, body)[:9] for place in (told - 1, told, told + 1) if 0 <= place < n]
+    for place in dict.fromkeys(places):
+        yield operation("lookup", [made], 0, place)
+
+
+def on_bits():
+    """A slice for rank and select: any bits, none or all ones; asked at its ends, after them, and far after."""
+    length = rnd.choice((0, 1, 2, 3, 7, 8, 9, 15, 16, 17, rnd.randrange(100), rnd.randrange(700)))
+    if chance(3):
+        length = rnd.choice((65535, 65536, 65536, 65537, 65537, 65600, 200000))
+    some = rnd.choice((rnd.randbytes(length), rnd.randbytes(length), bytes(length), length * b"\xff"))
+    if length and chance(30):                               # a few ones, or a few zeros
+        some = bytearray(length * rnd.choice((b"\0", b"\xff")))
+        for _ in range(rnd.randint(1, 9)):
+            some[rnd.choice((rnd.randrange(length), length - 1))] ^= 1 << rnd.randrange(8)
+    bits, ones = 8 * length, bin(int.from_bytes(some, "little")).count("1")
+    for what, most in ("rank", bits), ("select", max(0, ones - 1)):
+        for index in rnd.randint(0, most), rnd.choice((most, most, 0, most - most % 64)), rnd.choice((most + 1, most + 1, *HUGE)):
+            yield operation(what, [bytes(some)], index)
+
+
 def on_editions():
     """A list of kind 1 that rises, has equal neighbours or falls: written, and read as it stands, in each edition."""
     some, way = numbers(1, count(), 2), rnd.randrange(3)
@@ -215,7 +274,8 @@ def judging():
         yield operation("worst", [plan], n)
 
 
-SCENES = 4 * (on_a_sheet,) + 6 * (on_a_body,) + 6 * (on_a_board,) + 2 * (writing, judging) + (on_editions,)
+SCENES = (4 * (on_a_sheet,) + 6 * (on_a_body,) + 6 * (on_a_board,) + 2 * (writing, judging) + (on_editions,)
+          + 5 * (on_direct,) + 2 * (on_bits,))
 
 
 def operations(seed, many):

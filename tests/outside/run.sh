@@ -6,5 +6,6 @@ archive=$(realpath "$1")
 cd "$(dirname "$0")"
 python3 machine.py
 python3 compare.py "$archive" "${2:-200000}"
+python3 ranks.py "$archive"
 python3 interop.py "$archive"
 python3 readme.py "$archive"

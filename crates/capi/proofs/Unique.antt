@@ -6,6 +6,7 @@ use lib.ListN.{length}
 use Rattle.meaning.specs.Answer.{Answer, number}
 use Rattle.meaning.specs.Operations.{writeApart, check, readSheet, lookSheet, countBoard}
 use Rattle.meaning.specs.Plan.{judge, worstSize}
+use Rattle.meaning.specs.Rank.{rank, select}
 use Rattle.meaning.specs.declared.Tally.{Tally}
 use Rattle.capi.specs.Told.{Tells, TellsList, Blames, Tallies, Fetches}
 
@@ -64,3 +65,15 @@ pub one-board : (sheet : List ℕ) (work r r′ k k′ : ℕ) (t t′ : Tally)
     → Tallies (countBoard sheet work) r′ k′ t′
     → (r ≡ r′) × (k ≡ k′) × (t ≡ t′)
 one-board sheet work r r′ k k′ t t′ e f = (e .returned ∙ sym (f .returned), e .blamed ∙ sym (f .blamed), e .tallies ∙ sym (f .tallies))
+
+pub one-rank : (bytes : List ℕ) (bit r r′ ones ones′ : ℕ)
+    → Tells (rank bytes bit) r ones
+    → Tells (rank bytes bit) r′ ones′
+    → (r ≡ r′) × (ones ≡ ones′)
+one-rank bytes bit = one-tells (rank bytes bit)
+
+pub one-select : (bytes : List ℕ) (k r r′ bit bit′ : ℕ)
+    → Tells (select bytes k) r bit
+    → Tells (select bytes k) r′ bit′
+    → (r ≡ r′) × (bit ≡ bit′)
+one-select bytes k = one-tells (select bytes k)

@@ -1,14 +1,19 @@
 // The C interface, as include/pelluvion.h declares it. Each function calls the proved operation, answers with the refusal's number, 0 where
 // it was accepted, and tells the rest through its last pointers.
+use bits::rank;
+use bits::select;
 use judge::judge;
 use judge::worst_size;
 use leaves::wide;
+use meaning::Bit;
 use meaning::Checked;
 use meaning::Counted;
 use meaning::Found;
 use meaning::Judged;
 use meaning::Place;
+use meaning::Ranked;
 use meaning::Reading;
+use meaning::Selected;
 use meaning::Sized;
 use sheet::board;
 use sheet::check;
@@ -22,6 +27,7 @@ ghost use lib.ListN.{length};
 ghost use Rattle.meaning.specs.Answer.{number};
 ghost use Rattle.meaning.specs.Operations.{check as checkOf, countBoard, lookSheet, readSheet, writeApart};
 ghost use Rattle.meaning.specs.Plan.{judge as judgeOf, worstSize};
+ghost use Rattle.meaning.specs.Rank.{rank as rankOf, select as selectOf};
 ghost use Rattle.capi.specs.Told.{Tells, TellsList, Blames, Tallies, Fetches};
 
 // Nothing was refused.
@@ -207,6 +213,42 @@ pub extern "C" fn pelluvion_board(
             *failed = 0;
             *killed = 0;
             *unended = 0;
+            wide(e)
+        }
+    }
+}
+
+// How many ones stand before a bit of lent bytes, lowest bit of each byte first.
+#[no_mangle]
+pub extern "C" fn pelluvion_rank(bytes: &[u8], bit: usize, ones: &mut usize) -> u32
+    ensures { λ r. ⌜ Tells (rankOf (now (bytes .entry)) bit) r (now (ones .exit)) ⌝ }
+{
+    let ranked = rank(bytes, Bit { index: bit });
+    match ranked {
+        Ranked::Ones(n) => {
+            *ones = n;
+            ACCEPTED
+        }
+        Ranked::Refused(e) => {
+            *ones = 0;
+            wide(e)
+        }
+    }
+}
+
+// The bit of the k-th one of lent bytes, counted from 0.
+#[no_mangle]
+pub extern "C" fn pelluvion_select(bytes: &[u8], k: usize, bit: &mut usize) -> u32
+    ensures { λ r. ⌜ Tells (selectOf (now (bytes .entry)) k) r (now (bit .exit)) ⌝ }
+{
+    let selected = select(bytes, k);
+    match selected {
+        Selected::At(found) => {
+            *bit = found.index;
+            ACCEPTED
+        }
+        Selected::Refused(e) => {
+            *bit = 0;
             wide(e)
         }
     }

@@ -1,3 +1,4 @@
 pub mod Started
 pub mod Goes
+pub mod Aheads
 pub mod Firsts

@@ -13,6 +13,7 @@ ghost use lib.ListN.{length, take};
 ghost use Rattle.meaning.specs.Codes.{codeOf};
 ghost use Rattle.meaning.specs.Limits.{mostBytes, unitPlaces};
 ghost use Rattle.meaning.specs.Places.{part, Source, Target, Wrote, UnitIs, Took, Spare};
+ghost use Rattle.codes.specs.Aheads.{direct};
 ghost use Rattle.codes.specs.Started.{startedSays};
 
 // Writes n numbers that stand in a slice from a place on, to an output from an offset on. Answers where their bytes end.
@@ -34,6 +35,7 @@ pub fn write_code(
         4 => groups::write_stream(list, from, n, out, at),
         5 => elias::write_gamma(list, from, n, out, at),
         6 => elias::write_delta(list, from, n, out, at),
+        8 => direct::write(list, from, n, out, at),
         _ => groups::write_batches(list, from, n, out, at),
     }
 }
@@ -50,6 +52,7 @@ pub fn unit_at(code: u8, body: &[u8], left: usize, at: Position) -> UnitRead
         4 => groups::unit_stream(body, left, at),
         5 => elias::unit_gamma(body, left, at),
         6 => elias::unit_delta(body, left, at),
+        8 => direct::unit(body, left, at),
         _ => groups::unit_batches(body, left, at),
     }
 }
@@ -74,11 +77,12 @@ pub fn take_units(
         4 => groups::take_stream(body, left, at, work, from, room),
         5 => elias::take_gamma(body, left, at, work, from, room),
         6 => elias::take_delta(body, left, at, work, from, room),
+        8 => direct::take(body, left, at, work, from, room),
         _ => groups::take_batches(body, left, at, work, from, room),
     }
 }
 
-// Where the first unit of n numbers begins. Stream VByte's control bytes must fit the body.
+// Where the first unit of n numbers begins. Stream VByte's control bytes and code 8's parts must fit the body.
 pub fn start_at(code: u8, body: &[u8], n: usize) -> Started
     ensures { λ r. ⌜ startedSays r ≡ codeOf code .start (now (body .entry)) n ⌝ }
 {
@@ -96,12 +100,18 @@ pub fn start_at(code: u8, body: &[u8], n: usize) -> Started
             bit,
         });
     }
-    let tail = zero;
-    Started::At(Position {
+    let first = Position {
         head: zero,
-        tail,
+        tail: zero,
         bit,
-    })
+    };
+    if code == 8 {
+        if direct::parts_fit(body) {
+            return Started::At(first);
+        }
+        return Started::Refused(FAULT);
+    }
+    Started::At(first)
 }
 
 // What a unit of the first `count` numbers left spare: in G8IU alone another number could have followed them.
@@ -128,8 +138,16 @@ pub fn done_at(code: u8, body: &[u8], at: Position) -> bool
         4 => at.tail.byte == len,
         5 => elias::done(body, at),
         6 => elias::done(body, at),
+        8 => direct::done(body, at),
         _ => at.head.byte == len,
     }
+}
+
+// Whether a number is looked up directly, and not unit by unit.
+pub fn is_direct(code: u8) -> bool
+    ensures { λ r. ⌜ r ≡ direct (codeOf code .way) ⌝ }
+{
+    code == 8
 }
 
 // How many numbers a unit may hold: a lookup leaves so much room, so that the unit that holds its place can be taken.

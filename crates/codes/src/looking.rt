@@ -1,10 +1,12 @@
-// What lookups ask of any code: from the first unit through the one that holds the place, looking at nothing after. Numbers go by stretches into a
-// small array, or straight into work.
+// What lookups ask of any code: from the first unit through the one that holds the place, looking at nothing after; or directly. Numbers go by stretches
+// into a small array, or straight into work.
 use crate::First;
 use crate::Run;
 use crate::Started;
 use crate::Total;
 use crate::Went;
+use crate::ahead::ahead;
+use crate::dispatch::is_direct;
 use crate::dispatch::start_at;
 use crate::dispatch::unit_most;
 use crate::stretch::start_refusal;
@@ -30,6 +32,9 @@ pub fn lookup_code(code: u8, body: &[u8], n: usize, place: Place) -> Found
     requires { ⌜ Looked (now body) n (place .number) ⌝ }
     ensures { λ r. ⌜ foundSays r ≡ lookCode (codeOf code) (now (body .entry)) n (place .number) ⌝ }
 {
+    if is_direct(code) {
+        return direct::lookup(body, place);
+    }
     let goal = place.number;
     let started = start_at(code, body, n);
     let Started::At(first) = started else {
@@ -82,7 +87,7 @@ pub fn total_code(code: u8, body: &[u8], n: usize, place: Place) -> Total
     loop {
         let here = goal - passed;
         let room = lesser(192, here + most);
-        let went = stretch(code, body, n - passed, at, &mut numbers, start, room);
+        let went = ahead(code, body, n, passed, at, &mut numbers, start, room);
         let Went::On(taken) = went else {
             return Total::Refused(went_refusal(went));
         };
@@ -127,15 +132,8 @@ pub fn firsts_code(
     while passed < k {
         let place = to + passed;
         let room = k - passed;
-        let went = stretch(
-            code,
-            body,
-            n - passed,
-            at,
-            work,
-            Place { number: place },
-            room,
-        );
+        let next = Place { number: place };
+        let went = ahead(code, body, n, passed, at, work, next, room);
         let Went::On(taken) = went else {
             return First {
                 count: passed,
@@ -172,7 +170,7 @@ pub fn seek_code(code: u8, body: &[u8], runs: usize, n: usize, place: Place) -> 
     while passed < runs {
         // Each run holds a number at least, so no more lengths are needed than places are left; a unit's are.
         let room = lesser(32, goal - done.number + 16);
-        let went = stretch(code, body, runs - passed, at, &mut lengths, start, room);
+        let went = ahead(code, body, runs, passed, at, &mut lengths, start, room);
         let Went::On(taken) = went else {
             return Run::Refused(went_refusal(went));
         };

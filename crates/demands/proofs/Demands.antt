@@ -11,12 +11,14 @@ use Rattle.meaning.specs.Lists.{all}
 use Rattle.meaning.specs.Operations.{column, numbersAt, noTally}
 use Rattle.meaning.specs.Operations.{writeSheet, writeApart, check, readSheet, lookSheet, fetch, openReader, countBoard}
 use Rattle.meaning.specs.Plan.{judge, worstSize}
-use Rattle.meaning.specs.Says.{judgedSays, sizedSays, readingSays, foundSays, checkedSays, countedSays}
+use Rattle.meaning.specs.Rank.{rank, select}
+use Rattle.meaning.specs.Says.{judgedSays, sizedSays, readingSays, foundSays, checkedSays, countedSays, rankedSays, selectedSays}
 use Rattle.meaning.specs.Sheet.{Column, editionOf, columnAt, readColumn}
 use Rattle.meaning.specs.declared.Reading.{Reading}
 use Rattle.meaning.specs.declared.Counted.{Counted}
 use Rattle.meaning.specs.declared.Counted.the-variants as counted
 use Rattle.meaning.proofs.Answers.{bind-given, need-given, not-given}
+use Rattle.bits.proofs.Unique.{one-rank, one-select}
 use Rattle.judge.proofs.Unique.{one-judge, one-worst-size, one-sized}
 use Rattle.table.proofs.ColumnLaws.{column-here, column-there}
 use Rattle.table.proofs.Unique.{one-fetch}
@@ -33,7 +35,7 @@ use Rattle.demands.proofs.Forms.{refused-empty, by-verdict, by-number, 
 use Rattle.demands.proofs.EndToEnd.{column-holds, carries}
 use Rattle.demands.proofs.Outputs.{both, filled-with}
 use Rattle.demands.proofs.Refusals.{judge-refusals, worst-refusals, write-refusals, apart-refusals, check-refusals, read-refusals}
-use Rattle.demands.proofs.Refusals.{lookup-refusals, fetch-refusals, open-refusals, board-refusals}
+use Rattle.demands.proofs.Refusals.{lookup-refusals, fetch-refusals, open-refusals, board-refusals, rank-refusals, select-refusals}
 use Rattle.demands.proofs.Rewritten.{apart-is, same-sheet, same-apart}
 
 -- ---- demand 1
@@ -95,6 +97,8 @@ demand-1 =
           by-number (1 ∷ 2 ∷ 3 ∷ 4 ∷ 5 ∷ 6 ∷ 9 ∷ []) refl (Steps r) (λ a. number (foundSays (a .0))) (answer (standing r)) (λ a. a .1 ≡ r)
           (lookup-refusals (standing r .part) (standing r .column) (standing r .place))
           (λ a b s t. both a b (one-step r (a .1) (b .1) (a .0) (b .0) s t)) (λ a t. ap number (t .0)) (λ a t l. t .1 ∙ stands-still r l);
+      ranking = λ bytes bit. by-answer (1 ∷ 6 ∷ []) refl rankedSays (rank bytes bit) (rank-refusals bytes bit) (one-rank bytes bit);
+      selecting = λ bytes k. by-answer (1 ∷ 6 ∷ []) refl selectedSays (select bytes k) (select-refusals bytes k) (one-select bytes k);
     }
 
 -- ---- demand 2

@@ -7,7 +7,7 @@ use lib.Dec.{leb, ltb, eqb}
 use lib.ListN.{length, drop}
 use Rattle.meaning.specs.Answer.{Answer}
 use Rattle.meaning.specs.Bytes.{wordAt}
-use Rattle.meaning.specs.Codes.{Code, codeOf, readCode, lookCode}
+use Rattle.meaning.specs.Codes.{Code, Way, byUnits, directly, codeOf, readCode, lookBy, lookCode}
 use Rattle.meaning.specs.Limits.{numberLimit}
 use Rattle.meaning.specs.Lists.{all, sum, differ}
 use Rattle.meaning.specs.Plan.{Plan, bad, code, reference, differences, runs, planOf}
@@ -15,7 +15,7 @@ use Rattle.meaning.specs.Sheet.{Column, ofKind, readColumn}
 use Rattle.meaning.specs.Stages.{small, least, sumsFrom, raised, summed, unrolled, runHeader, valuesBody, lengthsBody, read, within, total, seek, look}
 use Rattle.meaning.specs.Units.{readFrom, readUnits, lookFrom, lookUnits}
 use Rattle.meaning.proofs.Answers.{Faulty, bind-faulty, cond-faulty, need-faulty}
-use Rattle.meaning.proofs.Lawful.{Lawful}
+use Rattle.meaning.proofs.Lawful.{Lawful, Looked}
 use Rattle.codes.proofs.Numbered.{laws}
 
 -- ---- units in turn
@@ -45,9 +45,15 @@ module _ (c : Code) (f : Lawful c) (body : List ℕ) (n : ℕ) where
   read-code-faulty =
       bind-faulty (c .start body n) _ (f .begins body n) (λ p. read-from-faulty (c .unit body) (f .faulty body) (c .joins) (c .done body) n n [] p)
 
+  look-by-faulty : (place : ℕ) (w : Way) → Looked c w → Faulty (lookBy c w body n place)
+  unfolding lookUnits
+  look-by-faulty place byUnits l =
+      bind-faulty (c .start body n) _ (f .begins body n) (λ p. look-from-faulty (c .unit body) (f .faulty body) n n place p)
+  look-by-faulty place (directly look) l = l .faulty body place
+
   look-code-faulty : (place : ℕ) → Faulty (lookCode c body n place)
-  unfolding lookCode lookUnits
-  look-code-faulty place = bind-faulty (c .start body n) _ (f .begins body n) (λ p. look-from-faulty (c .unit body) (f .faulty body) n n place p)
+  unfolding lookCode
+  look-code-faulty place = look-by-faulty place (c .way) (f .looked)
 
 -- ---- stages
 raised-faulty : (m : ℕ) (xs : List ℕ) → Faulty (raised m xs)

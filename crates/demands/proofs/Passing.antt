@@ -40,7 +40,7 @@ AllWritable edition ls = (k : ℕ) → k < length ls → Writable edition (getD 
 
 -- ---- one column
 module _ (edition : ℕ) (l : Listed) (w : Writable edition l) where
-  body-short : length (bodyOf l) ≤ 72 * mostNumbers + 56
+  body-short : length (bodyOf l) ≤ 72 * mostNumbers + 88
   body-short =
       omega (arith, most laws (planOf (l .plan)) (l .numbers) (w .small) (omega (arith, w .few)), plan-worst laws (l .plan) (length (l .numbers)), w .few)
 

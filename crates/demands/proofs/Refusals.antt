@@ -1,5 +1,5 @@
 -- Every refusal is one of document 01's numbers for that operation, so that number 0 says accepted and nothing else. Assumes nothing.
-use Prim.Native.Nat.{ℕ, suc, _*_}
+use Prim.Native.Nat.{ℕ, zero, suc, _*_}
 use mathlib.Core.Path.{_≡_, refl, sym, ap, _∙_, subst}
 use mathlib.Core.Bool.{Bool, true, false, _&&_, _||_}
 use mathlib.Core.List.{List, [], _∷_, map}
@@ -8,12 +8,14 @@ use lib.Dec.{leb, ltb, eqb}
 use lib.ListN.{length}
 use borrow.Author.Tests.{eqb-true, leb-true}
 use Rattle.meaning.specs.Answer.{Answer, given, refused, bind, need, number, Verdict, passed, blamed, _then_, ask, inTurn, after}
+use Rattle.meaning.specs.Bits.{lowBits}
 use Rattle.meaning.specs.Limits.{mostNumbers, mostBytes, rising}
 use Rattle.meaning.specs.Limits.{noSheet, badTable, badPlan, unfitPlan, noColumn, noPlace, noRoom, shortWork, fault, fallen, badOrders, badBoard}
 use Rattle.meaning.specs.Lists.{all, largest}
 use Rattle.meaning.specs.Operations.{Order, listedBy, ordersHold, ordersOf, column, numbersAt, boardHolds, boardVerdict, tallied}
 use Rattle.meaning.specs.Operations.{writeListed, writeSheet, writeApart, check, readSheet, lookSheet, fetch, openReader, countBoard}
 use Rattle.meaning.specs.Plan.{planOf, wellFormed, passes, judgePlan, judge, worstSize}
+use Rattle.meaning.specs.Rank.{oneAt, rank, select}
 use Rattle.meaning.specs.Sheet.{isEdition, Listed, sheetBytes, Column, columnsOf, isSheet, tableHolds, sound, readColumn, checkColumn, largestCount}
 use Rattle.meaning.specs.Stages.{look}
 use Rattle.meaning.proofs.Answers.{Faulty}
@@ -32,6 +34,14 @@ module _ (es : List ℕ) where
   by-bind : {A B : Type 0} (m : Answer A) (k : A → Answer B) → RefusesBy es m → ((a : A) → RefusesBy es (k a)) → RefusesBy es (bind m k)
   by-bind (given a) k h f = f a
   by-bind (refused e) k h f = h
+
+  -- a one that is not there
+  one-by : (e : ℕ) → among e es ≡ true → (k : ℕ) (bits : List ℕ) → RefusesBy es (oneAt e k bits)
+  unfolding oneAt
+  one-by e i k [] = i
+  one-by e i k (zero ∷ bits) = by-bind (oneAt e k bits) _ (one-by e i k bits) (λ j. tt)
+  one-by e i zero (suc b ∷ bits) = tt
+  one-by e i (suc k) (suc b ∷ bits) = by-bind (oneAt e k bits) _ (one-by e i k bits) (λ j. tt)
 
   by-fault : {A : Type 0} (m : Answer A) → among fault es ≡ true → Faulty m → RefusesBy es m
   by-fault (given a) i h = tt
@@ -85,6 +95,14 @@ module _ (es : List ℕ) where
 pub judge-refusals : (kind : ℕ) (plan : List ℕ) → RefusesBy (3 ∷ 4 ∷ 11 ∷ []) (judge kind plan)
 unfolding judge among
 judge-refusals kind plan = by-need _ (leb kind rising) badOrders _ refl (plan-by _ refl refl kind plan)
+
+pub rank-refusals : (bytes : List ℕ) (bit : ℕ) → RefusesBy (1 ∷ 6 ∷ []) (rank bytes bit)
+unfolding rank among
+rank-refusals bytes bit = by-need _ (leb (length bytes) mostBytes) noSheet _ refl (by-need _ (leb bit (8 * length bytes)) noPlace _ refl tt)
+
+pub select-refusals : (bytes : List ℕ) (k : ℕ) → RefusesBy (1 ∷ 6 ∷ []) (select bytes k)
+unfolding select among
+select-refusals bytes k = by-need _ (leb (length bytes) mostBytes) noSheet _ refl (one-by _ noPlace refl k (lowBits bytes))
 
 pub worst-refusals : (plan : List ℕ) (n : ℕ) → RefusesBy (3 ∷ 11 ∷ []) (worstSize plan n)
 unfolding worstSize among

@@ -8,6 +8,7 @@
 --     Opens sheet k (standing s, e)          reader::open       Steps s (r, s′)          reader::step          Fetches sheet k (part, e)   table::fetch
 --     Writes edition orders joined work o (r, o′)               orders::write
 --     WritesApart edition kinds plans counts joined work o (r, o′)                                             writer::write
+--     Ranks bytes bit r                      bits::rank         Selects bytes k r        bits::select
 -- Not here, since it is the checker's verdict on each function: that each operation, for all input, ends, does nothing undefined, checks what it is lent (no
 -- contract asks anything of its caller) and meets its contract. A sheet is lent to be read, so it keeps its contents; what work holds after a call is free.
 use Prim.Native.Nat.{ℕ, suc, _*_, _≤_, _<_}
@@ -23,11 +24,13 @@ use Rattle.meaning.specs.Operations.{numbersAt, noTally}  -- column k's list, b
 use Rattle.meaning.specs.Operations.{writeSheet, writeApart, check, readSheet, lookSheet, fetch, openReader, countBoard}  -- what document 01 defines
 use Rattle.meaning.specs.Places.{Below}  -- every number of a list is below
 use Rattle.meaning.specs.Plan.{judgePlan, judge, worstSize}  -- a plan judged for a kind; the same asked alone, and the worst size
+use Rattle.meaning.specs.Rank.{rank, select}  -- ones counted and found
 use Rattle.meaning.specs.Says.{judgedSays, sizedSays, readingSays, foundSays, checkedSays, countedSays}  -- what an answer of the source says
+use Rattle.meaning.specs.Says.{rankedSays, selectedSays}
 use Rattle.meaning.specs.Sheet.{isEdition, ofKind, sheetBytes, worstSheet}  -- 1 or 2; a list is of a kind; the defined bytes of columns; their worst size
 use Rattle.meaning.specs.Sheet.{editionOf, columnsOf, columnAt, readColumn, largestCount}  -- byte 0; its columns; column k; one read strictly; largest count
 use Rattle.writer.specs.Orders.{blankListed}  -- what stands for a column that is not there
-use Rattle.demands.specs.Contracts.{Judges, Sizes, Writes, WritesApart, Checks, Reads, Looks, Counts, Fetches, Opens, Steps}
+use Rattle.demands.specs.Contracts.{Judges, Sizes, Writes, WritesApart, Checks, Reads, Looks, Counts, Fetches, Opens, Steps, Ranks, Selects}
 use Rattle.demands.specs.Contracts.{Sized, Reading, Found, Checked, Reader, standing, answer}  -- answers; a reader, where it stands, what it tells next
 use Rattle.demands.specs.Contracts.{Bytes, Whole, Number, Passed}  -- answers that accept: n bytes written, n numbers read, a number found, passed
 use Rattle.demands.specs.Own.{ownOrders, ownNumbers, ownKinds, ownPlans, ownCounts}  -- a sheet's own orders and lists, as it holds them
@@ -63,6 +66,10 @@ pub record Demand1 : Type 0 where  -- the public operations
   pub opening : (sheet : List ℕ) (k : ℕ) → Answers (Opens sheet k) (λ a. a .1) (verdictOf (openReader sheet k)) (1 ∷ 2 ∷ 3 ∷ 4 ∷ 5 ∷ []) (λ a. a .0 .part ≡ [])
   pub stepping : (s : Reader) → Answers (Steps s) (λ a. number (foundSays (a .0))) (verdictOf (answer (standing s)))
       (1 ∷ 2 ∷ 3 ∷ 4 ∷ 5 ∷ 6 ∷ 9 ∷ []) (λ a. a .1 ≡ s)
+  pub ranking : (bytes : List ℕ) (bit : ℕ)
+      → Answers (Ranks bytes bit) (λ r. number (rankedSays r)) (verdictOf (rank bytes bit)) (1 ∷ 6 ∷ []) (λ r. Unit {0})
+  pub selecting : (bytes : List ℕ) (k : ℕ)
+      → Answers (Selects bytes k) (λ r. number (selectedSays r)) (verdictOf (select bytes k)) (1 ∷ 6 ∷ []) (λ r. Unit {0})
 
 -- ---- DEMAND 2. Writing gives precisely the bytes that the papers and document 01 define; reading precisely the lists; a sheet that passes the check, written
 -- again in its own edition from its own lists, kinds and plans, comes out byte for byte the same.

@@ -11,7 +11,7 @@ use lib.ListN.{length, drop, replicate, length-append, length-replicate}
 use lib.Seq.{drop-append-seam, drop-drop}
 use Rattle.meaning.specs.Answer.{Answer, given}
 use Rattle.meaning.specs.Bits.{bitsOf, pack}
-use Rattle.meaning.specs.Codes.{Code, codeGamma, codeDelta, readCode, always}
+use Rattle.meaning.specs.Codes.{Code, byUnits, codeGamma, codeDelta, readCode, always}
 use Rattle.meaning.specs.Elias.{gammaBits, deltaBits, writeGamma, writeDelta, gammaWord, deltaWord, unitElias, doneElias}
 use Rattle.meaning.specs.Limits.{numberLimit}
 use Rattle.meaning.specs.Lists.{all, joined}
@@ -162,6 +162,7 @@ module _ (m : ℕ) (bits : ℕ → List ℕ) (word : List ℕ → Answer (ℕ ×
         unit = unitElias word;
         joins = always;
         done = doneElias;
+        way = byUnits;
       }
 
   forth : (xs : List ℕ) → Below numberLimit xs → readCode code (pack (words bits xs)) (length xs) ≡ given xs
@@ -192,12 +193,13 @@ module _ (m : ℕ) (bits : ℕ → List ℕ) (word : List ℕ → Answer (ℕ ×
         begins = λ body n. tt;
         faulty = faulty;
         fresh = spare-always [];
-        forth = forth;
+        forth = λ xs short h. forth xs h;
         back = back;
         most = most;
         bytes = λ xs h. bytes xs;
         grows = λ k n h. omega (arith, mul-le-mul-left m h);
         nine = λ n. omega (arith, mul-le-mul-right n few);
+        looked = tt;
       }
 
 pub lawful-gamma : Lawful codeGamma

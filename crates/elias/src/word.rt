@@ -4,8 +4,6 @@ use crate::input::take_bits;
 use crate::input::top;
 use meaning::Bit;
 use meaning::FAULT;
-use meaning::Offset;
-use meaning::Position;
 ghost use mathlib.Core.Path.{_≡_};
 ghost use Prim.Native.Nat.{_+_, _-_, _*_, _<_, _≤_};
 ghost use lib.Dec.{leb};
@@ -14,7 +12,6 @@ ghost use Rattle.meaning.specs.Answer.{given, need};
 ghost use Rattle.meaning.specs.Bits.{bitsOf};
 ghost use Rattle.meaning.specs.Elias.{gammaIn, deltaWord};
 ghost use Rattle.meaning.specs.Limits.{fault, mostBytes};
-ghost use Rattle.meaning.specs.Positions.{atBit};
 ghost use Rattle.elias.specs.Says.{wordSays, wordOf};
 
 // The code that codewords are of.
@@ -27,17 +24,6 @@ pub enum Form {
 pub enum Codeword {
     Value(u64, usize),
     Refused(u8),
-}
-
-// A position that is a bit alone.
-pub fn from_bit(bit: Bit) -> Position
-    ensures { λ r. ⌜ r ≡ atBit (bit .index) ⌝ }
-{
-    Position {
-        head: Offset { byte: 0 },
-        tail: Offset { byte: 0 },
-        bit,
-    }
 }
 
 // A value is given where it is not too large.

@@ -1,4 +1,4 @@
-// The examples of document 01 and request P1 that are run, and the errors seen in earlier code, each a line with the refusal's number and the numbers read.
+// The examples of document 01 and of requests P1 and P4 that are run, and the errors seen in earlier code, each a line with the refusal's number and the numbers read.
 use libc::STDOUT_FILENO;
 use meaning::Found;
 use meaning::Judged;
@@ -180,6 +180,65 @@ fn second_batch() {
     looked(b"the 17th, the second batch cut", 7, cut, 17, 16);
 }
 
+// A body of code 8: its strict reading, and one number looked up directly.
+fn direct(name: &[u8], body: &[u8], n: usize, place: usize) {
+    read(
+        name,
+        &[8, 0, 0, 0, 0, 0, 0, 0, 0, 0, 0, 0, 0, 0, 0],
+        body,
+        n,
+    );
+    looked(b"- looked up", 8, body, n, place);
+}
+
+// Bodies of code 8: request P4's, and a body with each fault, some of which a lookup does not meet.
+fn directly() {
+    direct(
+        b"direct 0E 00 04 0C 0A",
+        &[4, 0, 0, 0, 0x0e, 0x00, 0x04, 0x0c, 0x0a],
+        3,
+        0,
+    );
+    direct(
+        b"direct 45 FF 00 01",
+        &[7, 0, 0, 0, 0x45, 0xff, 0x00, 0x01, 0xff, 0xff, 0xff, 0xff],
+        3,
+        2,
+    );
+    direct(b"a spare bit set", &[1, 0, 0, 0, 3, 0], 1, 0);
+    direct(b"the last bit not set", &[2, 0, 0, 0, 1, 5, 6], 1, 0);
+    direct(b"five bytes", &[5, 0, 0, 0, 0x10, 1, 2, 3, 4, 5], 1, 0);
+    direct(b"a byte more than needed", &[2, 0, 0, 0, 2, 5, 0], 1, 0);
+    direct(b"a one too few", &[1, 0, 0, 0, 1, 0], 2, 1);
+    direct(b"a data byte too few", &[2, 0, 0, 0, 3, 5], 2, 0);
+    direct(b"a byte behind the data", &[1, 0, 0, 0, 1, 5, 0], 1, 0);
+    direct(b"4294967295 data bytes", &[255, 255, 255, 255, 1, 5], 1, 0);
+    direct(b"cut in the header", &[1, 0, 0], 1, 0);
+}
+
+// 1,024 numbers of one byte: two stretches, each with its sum, true and then false.
+fn sums() {
+    let mut body = [255u8; 1160];
+    body[0] = 0;
+    body[1] = 4;
+    body[2] = 0;
+    body[3] = 0;
+    body[132] = 0;
+    body[133] = 2;
+    body[134] = 0;
+    body[135] = 4;
+    body[147] = 11;
+    body[649] = 7;
+    direct(b"true sums", &body, 1024, 11);
+    body[132] = 10;
+    body[133] = 0;
+    direct(b"a false sum leads to the stretch behind", &body, 1024, 11);
+    looked(b"- looked up before it", 8, &body, 1024, 9);
+    body[134] = 5;
+    body[135] = 0;
+    direct(b"sums that fall lead behind the last", &body, 1024, 11);
+}
+
 // Reading empty fields of the last group as numbers, one added to 4294967295 in 32 bits, 002's end bit, room left in a block.
 fn earlier_errors() {
     looked(b"fifth of five in groups", 2, &[0, 1, 2, 3, 4, 0, 5], 5, 4);
@@ -213,5 +272,7 @@ fn main() {
     bodies();
     batches();
     second_batch();
+    directly();
+    sums();
     earlier_errors();
 }

@@ -11,27 +11,15 @@ use lib.ListN.{length, replicate, length-append, length-replicate, replicate-app
 use borrow.Author.Tests.{le-leb, lt-leb, leb-true, ltb-true, eqb-true}
 use Rattle.meaning.specs.Lists.{sum, joined}
 use Rattle.meaning.specs.Places.{Below}
-use Rattle.meaning.specs.G8IU.{bitsLow, numberLow, endBits, blockControl, lengthsBy, blockLengths}
+use Rattle.meaning.specs.Bits.{bitsLow, numberLow}
+use Rattle.meaning.specs.G8IU.{endBits, blockControl, lengthsBy, blockLengths}
 use Rattle.meaning.proofs.Bounds.{below-nil, below-cons, below-append}
 use Rattle.meaning.proofs.Tests.{both-true}
 use Rattle.leaves.proofs.Joined.{joined-append, joined-one, sum-append}
+use Rattle.words.proofs.LowBits.{bits-number, number-small}
 use Rattle.g8iu.proofs.Tables.{at-each}
 
 -- ---- bits, lowest first
-pub bits-number : (bs : List ℕ) → Below 2 bs → bitsLow (length bs) (numberLow bs) ≡ bs
-unfolding bitsLow numberLow
-bits-number [] h = refl
-bits-number (b ∷ bs) h =
-    let lt : b < 2 = h 0 in
-    let low : (b + 2 * numberLow bs) % 2 ≡ b = omega arith in
-    let high : (b + 2 * numberLow bs) / 2 ≡ numberLow bs = omega arith in
-    rw (low, high, bits-number bs (λ i. h (suc i)))
-
-number-small : (bs : List ℕ) → Below 2 bs → numberLow bs < 2 ^ length bs
-unfolding numberLow
-number-small [] h = omega arith
-number-small (b ∷ bs) h = rw (pow-suc 2 (length bs)) (omega (arith, h 0, number-small bs (λ i. h (suc i))))
-
 -- a bit more or less
 number-bit : (hs bs : List ℕ) → numberLow (hs ++ (1 ∷ bs)) ≡ numberLow (hs ++ (0 ∷ bs)) + 2 ^ length hs
 unfolding numberLow

@@ -10,7 +10,8 @@ use borrow.Author.Tests.{eq-eqb}
 use Rattle.meaning.specs.Answer.{given}
 use Rattle.meaning.specs.Bytes.{numberOf}
 use Rattle.meaning.specs.DataBytes.{byteLength, dataIn}
-use Rattle.meaning.specs.G8IU.{bitsLow, lengthsBy, blockLengths}
+use Rattle.meaning.specs.Bits.{bitsLow}
+use Rattle.meaning.specs.G8IU.{lengthsBy, blockLengths}
 use Rattle.meaning.specs.Lists.{all, sum}
 use Rattle.meaning.specs.Places.{Below, part}
 use Rattle.meaning.proofs.Bounds.{below-take, below-drop}

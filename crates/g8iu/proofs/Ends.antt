@@ -8,7 +8,8 @@ use native.Mathlib.Omega.{arith}
 use lib.Count.{trailingZeros}
 use lib.Dec.{leb, ltb, eqb}
 use borrow.Author.Tests.{leb-true, ltb-true, ne-eqb}
-use Rattle.meaning.specs.G8IU.{bitsLow, lengthsBy, blockLengths}
+use Rattle.meaning.specs.Bits.{bitsLow}
+use Rattle.meaning.specs.G8IU.{lengthsBy, blockLengths}
 use Rattle.meaning.proofs.Tests.{both-true}
 use Rattle.g8iu.proofs.Tables.{each, at-each, same, same-is}
 

@@ -180,10 +180,11 @@ lawful =
       begins = λ body n. tt;
       faulty = unit-faulty;
       fresh = fresh;
-      forth = forth;
+      forth = λ xs few h. forth xs h;
       back = back;
       most = λ xs h. most xs;
       bytes = λ xs h. write-small xs;
       grows = λ k n h. omega arith;
       nine = λ n. omega arith;
+      looked = tt;
     }

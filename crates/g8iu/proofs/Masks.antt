@@ -3,34 +3,24 @@ use Prim.Native.Nat.{ℕ, zero, suc, _+_, _*_, _/_, _%_, _^_, _≤_, _<_}
 use mathlib.Core.Path.{_≡_, refl, ap, _∙_}
 use mathlib.Core.Bool.{true, false, _||_}
 use mathlib.Core.List.{List, [], _∷_}
-use native.Mathlib.Nat.{mul-assoc}
 use native.Mathlib.Omega.{arith}
 use lib.Bits.{bitAnd, and-mask, and-le-r}
 use lib.Dec.{leb, ltb, eqb}
-use lib.ListN.{length, getD, take, drop}
+use lib.ListN.{getD, take, drop}
 use lib.Pow.{pow-pos, pow-add, low, high}
-use lib.Seq.{take-take, take-add, drop-at, drop-drop}
 use borrow.Author.Tests.{lt-leb, ne-eqb, ltb-true}
-use Rattle.meaning.specs.Bytes.{numberOf, wordAt}
+use Rattle.meaning.specs.Bytes.{numberOf}
 use Rattle.meaning.specs.DataBytes.{byteLength}
 use Rattle.meaning.specs.Lists.{all}
 use Rattle.meaning.specs.Places.{Below}
 use Rattle.meaning.proofs.Tests.{by-order}
+use Rattle.words.proofs.Bytes.{number-split}
 use Rattle.words.proofs.DataBytes.{held}
 use Rattle.words.proofs.Straight.{fewest-1, fewest-2, fewest-3, fewest-4}
-use Rattle.leaves.proofs.Parts.{part-length}
 use Rattle.g8iu.specs.Blocks.{mostOf, leastOf}
 use Rattle.g8iu.proofs.Tables.{at-each}
 
 -- ---- bytes as one number: the first l of them, and the rest
-split : (l : ℕ) (bs : List ℕ) → numberOf bs ≡ numberOf (drop l bs) * 2 ^ (8 * l) + numberOf (take l bs)
-unfolding numberOf
-split zero bs = omega arith
-split (suc l) [] = omega arith
-split (suc l) (b ∷ bs) =
-    let e : 8 * suc l ≡ 8 * l + 8 = omega arith in
-    rw (e, pow-add 2 (8 * l) 8, ← (mul-assoc (numberOf (drop l bs)) (2 ^ (8 * l)) (2 ^ 8)), split l bs) (omega arith)
-
 small : (l : ℕ) (bs : List ℕ) → Below 256 bs → numberOf (take l bs) < 2 ^ (8 * l)
 unfolding numberOf
 small zero bs h = omega arith
@@ -41,20 +31,10 @@ small (suc l) (b ∷ bs) h =
 
 module _ (l : ℕ) (bs : List ℕ) (h : Below 256 bs) where
   low-bytes : numberOf bs % 2 ^ (8 * l) ≡ numberOf (take l bs)
-  low-bytes = ap (λ (n : ℕ). n % 2 ^ (8 * l)) (split l bs) ∙ low (numberOf (drop l bs)) (8 * l) (small l bs h)
+  low-bytes = ap (λ (n : ℕ). n % 2 ^ (8 * l)) (number-split l bs) ∙ low (numberOf (drop l bs)) (8 * l) (small l bs h)
 
   pub high-bytes : numberOf bs / 2 ^ (8 * l) ≡ numberOf (drop l bs)
-  high-bytes = ap (λ (n : ℕ). n / 2 ^ (8 * l)) (split l bs) ∙ high (numberOf (drop l bs)) (8 * l) (small l bs h)
-
-pub words-number : (s : List ℕ) (at : ℕ) → at + 8 ≤ length s → wordAt s at + 4294967296 * wordAt s (at + 4) ≡ numberOf (take 8 (drop at s))
-unfolding wordAt
-words-number s at h =
-    let a : take 4 (take 8 (drop at s)) ≡ take 4 (drop at s) = take-take 4 8 (drop at s) (omega arith) in
-    let b : drop 4 (take 8 (drop at s)) ≡ take 4 (drop (at + 4) s) =
-    ap (drop 4) (take-add 4 4 (drop at s)) ∙ drop-at (take 4 (drop at s)) (take 4 (drop 4 (drop at s))) 4 (part-length s at 4 (omega arith))
-    ∙ ap (take 4) (drop-drop 4 at s) in
-    let e = split 4 (take 8 (drop at s)) in
-    rw (← a, ← b) (omega arith)
+  high-bytes = ap (λ (n : ℕ). n / 2 ^ (8 * l)) (number-split l bs) ∙ high (numberOf (drop l bs)) (8 * l) (small l bs h)
 
 -- all bytes are 0 where their number is, and only there
 pub clear-true : (bs : List ℕ) → numberOf bs ≡ 0 → all (eqb 0) bs ≡ true

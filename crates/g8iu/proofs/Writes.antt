@@ -31,7 +31,7 @@ write-start {first = first} {n} source =
     let m : first + n - first ≡ n = omega arith in
     record {
       inside = source .inside;
-      short = rw m (source .short);
+      short = omega (arith, source .short);
       low = omega arith;
       high = omega arith;
       room = omega arith;

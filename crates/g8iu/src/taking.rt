@@ -3,13 +3,12 @@ use leaves::lesser;
 use leaves::wide;
 use meaning::Offset;
 use meaning::Place;
-use words::word_at;
+use words::eight_at;
 ghost use mathlib.Core.Path.{_≡_};
 ghost use Prim.Native.Nat.{_+_, _≤_};
 ghost use lib.Dec.{leb};
-ghost use lib.ListN.{length, take, drop};
+ghost use lib.ListN.{length};
 ghost use lib.Seq.{sets};
-ghost use Rattle.meaning.specs.Bytes.{numberOf};
 ghost use Rattle.meaning.specs.Places.{part};
 ghost use Rattle.g8iu.specs.Blocks.{Ending, BlockIs, BegunIs};
 
@@ -25,17 +24,6 @@ pub fn has_block(body: &[u8], at: Offset) -> bool
 {
     let len = body.len();
     at.byte < len - lesser(len, 8)
-}
-
-// The number in the 8 bytes from an offset on.
-fn eight_at(bytes: &[u8], at: Offset) -> u64
-    requires { ⌜ at .byte + 8 ≤ length (now bytes) ⌝ }
-    ensures { λ r. ⌜ r ≡ numberOf (take 8 (drop (at .byte) (now (bytes .entry)))) ⌝ }
-{
-    let low = word_at(bytes, at);
-    let middle = at.byte + 4;
-    let high = word_at(bytes, Offset { byte: middle });
-    low as u64 + 4294967296 * high as u64
 }
 
 // Copies eight numbers.

@@ -113,12 +113,13 @@ lawful-by {g} by =
       begins = λ body n. tt;
       faulty = λ body left p. unit-faulty (behind g) by body left p;
       fresh = spare-always [];
-      forth = groups-forth by;
+      forth = λ xs few h. groups-forth by xs h;
       back = λ body n xs low. groups-back by body n xs low;
       most = λ xs small. omega (arith, groups-size by xs, data-most xs);
       bytes = λ xs small. groups-small by xs;
       grows = λ k n h. omega arith;
       nine = λ n. omega arith;
+      looked = tt;
     }
 
 pub lawful-groups : Lawful codeGroups
@@ -244,10 +245,11 @@ lawful-stream =
       begins = λ body n. need-faulty (leb (groupCount n) (length body)) _ tt;
       faulty = λ body left p. unit-faulty apart fours-fields body left p;
       fresh = spare-always [];
-      forth = stream-forth;
+      forth = λ xs few h. stream-forth xs h;
       back = stream-back;
       most = λ xs small. omega (arith, stream-size xs, data-most xs);
       bytes = λ xs small. stream-small xs;
       grows = λ k n h. omega arith;
       nine = λ n. omega arith;
+      looked = tt;
     }

@@ -1,11 +1,11 @@
--- What the loops that put bytes know, and the part of a list that each turn puts. Assumes nothing.
-use Prim.Native.Nat.{ℕ, zero, suc, _+_, _-_, _*_, _/_, _%_, _^_, _≤_, _<_, min}
+-- What the loops that put groups know, and the part of a list that each turn puts. Assumes nothing.
+use Prim.Native.Nat.{ℕ, zero, suc, _+_, _-_, _*_, _/_, _^_, _≤_, _<_, min}
 use mathlib.Core.Path.{_≡_, refl, sym, ap, ap₂, _∙_}
 use mathlib.Core.List.{List, [], _∷_, _++_, append-assoc, map, map-append}
-use native.Mathlib.Nat.{add-zero, add-assoc, sub-zero, mul-le-mul-left, pow-suc, pow-le-pow-right}
+use native.Mathlib.Nat.{add-assoc, sub-zero, mul-le-mul-left, pow-suc, pow-le-pow-right}
 use native.Mathlib.Numerals.{add-one}
 use native.Mathlib.Omega.{arith}
-use lib.ListN.{length, getD, take, drop, set, length-append, length-map, length-take}
+use lib.ListN.{length, getD, take, drop, length-append, length-map, length-take}
 use lib.Seq.{sets, take-nil, take-all, take-take, drop-drop}
 use Rattle.meaning.specs.Bytes.{bytesOf}
 use Rattle.meaning.specs.DataBytes.{byteLength, fewest, dataBytes}
@@ -14,9 +14,10 @@ use Rattle.meaning.specs.Limits.{unitPlaces}
 use Rattle.meaning.specs.Places.{Source, Wrote, part}
 use Rattle.meaning.specs.declared.Offset.{Offset}
 use Rattle.meaning.proofs.Tests.{by-order}
-use Rattle.words.proofs.DataBytes.{held, few-length, data-part, data-part-none, data-most}
+use Rattle.words.proofs.DataBytes.{held, data-part, data-part-none}
+use Rattle.words.proofs.Puts.{PutSo, put-start, put-turn, put-end, data-bound}
 use Rattle.leaves.proofs.Parts.{part-length, part-cons, part-snoc}
-use Rattle.leaves.proofs.Putting.{wrote-before, Left, left-start, left-long, left-turn, left-end}
+use Rattle.leaves.proofs.Putting.{wrote-before}
 use Rattle.groups.specs.Layouts.{layoutOf}
 use Rattle.groups.specs.Parts.{dataOf, controlsOf, groupsOf, sizeOf, fieldsBy, Laid}
 use Rattle.groups.specs.declared.group.Form.{Form}
@@ -24,38 +25,6 @@ use Rattle.groups.specs.declared.group.Form.the-variants.{Fours, Stream,
 use Rattle.groups.specs.declared.put.Fielded.{Fielded}
 use Rattle.groups.proofs.Controls.{Fields, fours-fields, batches-fields, power-more, lengths-of, control-small, mask-of}
 use Rattle.groups.proofs.Pieces.{groups-next, controls-next, controls-count, controls-bytes, groups-size}
-
--- ---- the bytes of n numbers, `bytes place count`, of which those from number i on are still to be put: putting them makes the whole
-module _ (bytes : ℕ → ℕ → List ℕ) (from n at : ℕ) (out₀ : List ℕ) where
-  pub record PutSo (out : List ℕ) (to i : ℕ) : Type 0 where
-    pub most : i ≤ n
-    pub left : Left (bytes from n) at out₀ (bytes (from + i) (n - i)) out to
-
-  pub put-start : PutSo out₀ at 0
-  put-start = record { most = omega arith; left = rw (add-zero from, sub-zero n) (left-start (bytes from n) at out₀) }
-
-module _ {bytes : ℕ → ℕ → List ℕ} {from n at : ℕ} {out₀ out : List ℕ} {to i : ℕ} (so : PutSo bytes from n at out₀ out to i) where
-  pub put-long : length out ≡ length out₀
-  put-long = left-long (so .left)
-
-  -- those of k numbers have been put
-  pub put-turn : (k : ℕ) {front out′ : List ℕ} {to′ : Offset} → i + k ≤ n → bytes (from + i) (n - i) ≡ front ++ bytes (from + i + k) (n - i - k)
-      → Wrote front to out out′ to′ → PutSo bytes from n at out₀ out′ (to′ .byte) (i + k)
-  put-turn k {front} h e p =
-      let m : n - i - k ≡ n - (i + k) = omega arith in
-      let e′ : bytes (from + i) (n - i) ≡ front ++ bytes (from + (i + k)) (n - (i + k)) = e ∙ rw (add-assoc from i k, m) in
-      record { most = h; left = left-turn (so .left) e′ p }
-
-  pub put-end : n ≤ i → ((place : ℕ) → bytes place 0 ≡ []) → Wrote (bytes from n) at out₀ out (record { byte = to })
-  put-end h none = let m : n - i ≡ 0 = omega arith in left-end (so .left) (rw m (none (from + i)))
-
--- one byte put, and one number
-pub put-one : {b v at : ℕ} {out out′ : List ℕ} → out′ ≡ set out at b → b ≡ v → Wrote (v ∷ []) at out out′ (record { byte = at + 1 })
-put-one {at = at} {out = out} e is = record { ends = refl; here = e ∙ ap (set out at) is }
-
-pub put-few : (x : ℕ) {at end : ℕ} {out out′ : List ℕ} → (end ≡ at + byteLength x) × (out′ ≡ sets out at (fewest x))
-    → Wrote (fewest x) at out out′ (record { byte = end })
-put-few x {at = at} e = record { ends = e .0 ∙ ap (λ (m : ℕ). at + m) (sym (few-length x)); here = e .1 }
 
 -- ---- parts of a list
 drop-take : (k m : ℕ) (l : List ℕ) → drop k (take m l) ≡ take (m - k) (drop k l)
@@ -92,18 +61,15 @@ module _ (xs : List ℕ) where
         groups-next by (part xs from left) some-part
         ∙ rw (front, back) (sym (append-assoc (controlsOf g xs from k) (dataOf xs from k) (groupsOf g xs (from + k) (left - k))))
 
-  -- at most 4 bytes a number, one control byte for four
+  -- one control byte for four numbers, and at most 4 bytes a number
   module _ (from n : ℕ) (inside : from + n ≤ length xs) where
-    pub data-bound : length (dataOf xs from n) ≤ 4 * n
-    data-bound = omega (arith, data-most (part xs from n), part-length xs from n inside)
-
     pub controls-bound : (g : Grouping) → length (controlsOf g xs from n) ≤ n
     unfolding groupCount
     controls-bound g = omega (arith, controls-count g (part xs from n), part-length xs from n inside)
 
     pub groups-bound : {g : Grouping} → Fields g → length (groupsOf g xs from n) ≤ 5 * n
     unfolding groupCount
-    groups-bound by = omega (arith, groups-size by (part xs from n), data-bound, part-length xs from n inside)
+    groups-bound by = omega (arith, groups-size by (part xs from n), data-bound xs from n inside, part-length xs from n inside)
 
 -- a size that was told is that of what would be written
 pub size-is : (xs : List ℕ) (from n at : ℕ) {end : ℕ} (bytes : List ℕ) → from + n ≤ length xs → end ≡ at + sizeOf xs from n
@@ -275,28 +241,3 @@ pub group-laid : {g : Grouping} → Fields g → {xs : List ℕ} {to m c : ℕ} 
 group-laid {g} by {xs} {to} t em ec here =
     let many : groupCount (length xs) ≡ length (controls g xs) = sym (controls-count g xs) in
     wrote-before (controls g xs) (rw (em, many) at (t .wrote)) (here ∙ rw (em, ec, controls-bytes by xs))
-
--- ---- a number in so many bytes
-pub record NumberSo (x bytes at : ℕ) (out₀ out : List ℕ) (rest i : ℕ) : Type 0 where
-  pub most : i ≤ bytes
-  pub left : Left (bytesOf bytes x) at out₀ (bytesOf (bytes - i) rest) out (at + i)
-
-pub number-start : (x bytes at : ℕ) (out₀ : List ℕ) → NumberSo x bytes at out₀ out₀ x 0
-number-start x bytes at out₀ = record { most = omega arith; left = rw (sub-zero bytes, add-zero at) (left-start (bytesOf bytes x) at out₀) }
-
-module _ {x bytes at : ℕ} {out₀ out : List ℕ} {rest i : ℕ} (t : NumberSo x bytes at out₀ out rest i) where
-  pub number-long : length out ≡ length out₀
-  number-long = left-long (t .left)
-
-  pub number-turn : {b : ℕ} {out′ : List ℕ} → i < bytes → b ≡ rest % 256 → out′ ≡ set out (at + i) b → NumberSo x bytes at out₀ out′ (rest / 256) (i + 1)
-  unfolding bytesOf
-  number-turn more eb here =
-      let less : bytes - i ≡ suc (bytes - (i + 1)) = omega arith in
-      record {
-        most = omega arith;
-        left = rw (← (add-assoc at i 1)) (left-turn (rw less at (t .left)) refl (put-one here eb));
-      }
-
-  pub number-end : bytes ≤ i → out ≡ sets out₀ at (bytesOf bytes x)
-  unfolding bytesOf
-  number-end all = let none : bytes - i ≡ 0 = omega arith in left-end (t .left) (rw none) .here

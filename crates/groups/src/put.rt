@@ -9,13 +9,11 @@ use words::put_fewest;
 ghost use mathlib.Core.Path.{_≡_};
 ghost use Prim.Native.Nat.{_+_, _-_, _*_, _<_, _≤_, _^_};
 ghost use lib.ListN.{length};
-ghost use lib.Seq.{sets};
-ghost use Rattle.meaning.specs.Bytes.{bytesOf};
 ghost use Rattle.meaning.specs.DataBytes.{byteLength};
 ghost use Rattle.meaning.specs.Groups.{fours, control};
 ghost use Rattle.meaning.specs.Limits.{unitPlaces};
 ghost use Rattle.meaning.specs.Places.{Wrote, part};
-ghost use Rattle.groups.specs.Parts.{controlsOf, dataOf, fieldsBy, Laid};
+ghost use Rattle.groups.specs.Parts.{controlsOf, fieldsBy, Laid};
 
 // What a number's field says: its length minus one.
 fn field_of(x: u32) -> usize
@@ -71,21 +69,6 @@ pub fn put_controls(list: &[u32], from: Place, n: usize, out: &mut [u8], at: Off
     Offset { byte: to }
 }
 
-// Puts the data of n numbers from a place on, and answers the offset after it.
-pub fn put_data(list: &[u32], from: Place, n: usize, out: &mut [u8], at: Offset) -> Offset
-    requires { ⌜ (from .number + n ≤ length (now list)) × (at .byte + 4 * n < 2 ^ 63) ⌝ }
-    ensures { λ r. ⌜ Wrote (dataOf (now (list .entry)) (from .number) n) (at .byte) (now (out .entry)) (now (out .exit)) r ⌝ }
-{
-    let first = from.number;
-    let mut to = at;
-    let mut i: usize = 0;
-    while i < n {
-        to = put_fewest(out, to, list[first + i]);
-        i += 1;
-    }
-    to
-}
-
 // Where a group's data ends, its fields as codes 2 and 4 have them, and one more than so many fields can be at most.
 pub struct Fielded {
     pub end: Offset,
@@ -127,20 +110,5 @@ pub fn fields_by(form: Form, fields: usize, scale: usize) -> usize
         Form::Fours => fields,
         Form::Stream => fields,
         Form::Batches => scale - 1 - fields,
-    }
-}
-
-// Puts a number in so many bytes.
-pub fn put_number(out: &mut [u8], at: Offset, x: usize, bytes: usize)
-    requires { ⌜ at .byte + bytes < 2 ^ 64 ⌝ }
-    ensures { λ _. ⌜ now (out .exit) ≡ sets (now (out .entry)) (at .byte) (bytesOf bytes x) ⌝ }
-{
-    let first = at.byte;
-    let mut rest = x;
-    let mut i: usize = 0;
-    while i < bytes {
-        put(out, Offset { byte: first + i }, (rest % 256) as u8);
-        rest = rest / 256;
-        i += 1;
     }
 }

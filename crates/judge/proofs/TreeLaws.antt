@@ -7,6 +7,7 @@ use native.Mathlib.Omega.{arith}
 use lib.Dec.{leb, eqb}
 use lib.ListN.{getD}
 use Rattle.meaning.specs.Codes.{isCode, codeOf, worstGroups}
+use Rattle.meaning.specs.Direct.{worstDirect}
 use Rattle.meaning.specs.Groups.{groupCount}
 use Rattle.meaning.specs.Limits.{mostNumbers, mostStages}
 use Rattle.meaning.specs.Plan.{Plan, bad, code, reference, differences, runs, good, planSize, planAt, worstPlan}
@@ -92,15 +93,17 @@ unfolding goodEnd
 good-ends p m e z = an-end (good p) (planSize p) m e z
 
 -- ---- the worst size of a code
-pub worst-else : (k n : ℕ) → (k ≡ 1 → ⊥) → (k ≡ 2 → ⊥) → (k ≡ 3 → ⊥) → (k ≡ 4 → ⊥) → (k ≡ 5 → ⊥) → (k ≡ 6 → ⊥) → worstGroups n ≡ codeOf k .worst n
-worst-else k n h₁ h₂ h₃ h₄ h₅ h₆ =
+pub worst-else : (k n : ℕ) → (k ≡ 1 → ⊥) → (k ≡ 2 → ⊥) → (k ≡ 3 → ⊥) → (k ≡ 4 → ⊥) → (k ≡ 5 → ⊥) → (k ≡ 6 → ⊥) → (k ≡ 8 → ⊥)
+    → worstGroups n ≡ codeOf k .worst n
+worst-else k n h₁ h₂ h₃ h₄ h₅ h₆ h₈ =
     by-number (λ d. worstGroups n ≡ d .worst n) k
-    (λ e. absurd (h₁ e)) (λ e. absurd (h₂ e)) (λ e. absurd (h₃ e)) (λ e. absurd (h₄ e)) (λ e. absurd (h₅ e)) (λ e. absurd (h₆ e)) refl
+    (λ e. absurd (h₁ e)) (λ e. absurd (h₂ e)) (λ e. absurd (h₃ e)) (λ e. absurd (h₄ e)) (λ e. absurd (h₅ e)) (λ e. absurd (h₆ e)) refl (λ e. absurd (h₈ e))
 
 -- gamma has the largest
 code-most : (k n : ℕ) → n ≤ mostNumbers → codeOf k .worst n ≤ 8320
-unfolding groupCount
-code-most k n h = by-code (λ d. d .worst n ≤ 8320) (omega arith) (omega arith) (omega arith) (omega arith) (omega arith) (omega arith) (omega arith) k
+unfolding groupCount worstDirect
+code-most k n h =
+    by-code (λ d. d .worst n ≤ 8320) (omega arith) (omega arith) (omega arith) (omega arith) (omega arith) (omega arith) (omega arith) (omega arith) k
 
 -- ---- the worst size of a plan is within what its stages can make of the largest code
 most : ℕ → ℕ

@@ -8,6 +8,7 @@ use meaning::RISING;
 ghost use mathlib.Core.Path.{_≡_};
 ghost use Prim.Native.Nat.{_≤_};
 ghost use Rattle.meaning.specs.Codes.{codeOf, worstGroups};
+ghost use Rattle.meaning.specs.Direct.{worstDirect};
 ghost use Rattle.meaning.specs.Limits.{mostNumbers, mostStages};
 ghost use Rattle.meaning.specs.Plan.{planAt, passes, worstPlan};
 ghost use Rattle.judge.specs.Stage.{goodEnd};
@@ -68,6 +69,14 @@ fn worst_groups(n: usize) -> usize
     4 * n + (n + 3) / 4
 }
 
+// Code 8: a header, a bit for each data byte, a sum for each full stretch of them, and the data.
+fn worst_direct(n: usize) -> usize
+    requires { ⌜ n ≤ mostNumbers ⌝ }
+    ensures { λ r. ⌜ r ≡ worstDirect n ⌝ }
+{
+    4 + (n + 1) / 2 + 2 * (n / 128) + 4 * n
+}
+
 // The worst size of n numbers by a code.
 pub fn worst_code(code: u8, n: usize) -> usize
     requires { ⌜ n ≤ mostNumbers ⌝ }
@@ -80,6 +89,7 @@ pub fn worst_code(code: u8, n: usize) -> usize
         4 => worst_groups(n),
         5 => (65 * n + 7) / 8,
         6 => (43 * n + 7) / 8,
+        8 => worst_direct(n),
         _ => worst_groups(n),
     }
 }

@@ -11,7 +11,7 @@ ghost use lib.ListN.{length, set, take};
 ghost use lib.Seq.{sets};
 ghost use Rattle.meaning.specs.Limits.{unitPlaces};
 ghost use Rattle.meaning.specs.Places.{Ends};
-ghost use Rattle.meaning.specs.Positions.{atByte};
+ghost use Rattle.meaning.specs.Positions.{atByte, atBit};
 ghost use Rattle.meaning.specs.Says.{unitRefusal};
 
 // A byte as a number: that it is below 256 is then known wherever it goes.
@@ -92,6 +92,17 @@ pub fn from_byte(at: Offset) -> Position
         head: at,
         tail: Offset { byte: 0 },
         bit: Bit { index: 0 },
+    }
+}
+
+// A position that is a bit alone.
+pub fn from_bit(bit: Bit) -> Position
+    ensures { λ r. ⌜ r ≡ atBit (bit .index) ⌝ }
+{
+    Position {
+        head: Offset { byte: 0 },
+        tail: Offset { byte: 0 },
+        bit,
     }
 }
 

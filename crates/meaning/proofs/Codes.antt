@@ -7,7 +7,7 @@ use native.Mathlib.Omega.{arith}
 use lib.Dec.{ltb, eqb}
 use lib.ListN.{getD}
 use borrow.Author.Tests.{lt-ltb, eqb-true}
-use Rattle.meaning.specs.Codes.{Code, always, codeVByte, codeGroups, codeG8IU, codeStream, codeGamma, codeDelta, codeBatches, codeOf}
+use Rattle.meaning.specs.Codes.{Code, always, codeVByte, codeGroups, codeG8IU, codeStream, codeGamma, codeDelta, codeBatches, codeDirect, codeOf}
 use Rattle.meaning.specs.DataBytes.{byteLength}
 use Rattle.meaning.specs.Places.{Spare}
 use Rattle.meaning.proofs.Tests.{by-test}
@@ -15,9 +15,9 @@ use Rattle.meaning.proofs.Tests.{by-test}
 -- what holds of each code by its number holds of the code that a number is
 pub by-number {ℓ} : (P : Code → Type ℓ) (c : ℕ) → (c ≡ 1 → P codeVByte) → (c ≡ 2 → P codeGroups) → (c ≡ 3 → P codeG8IU) → (c ≡ 4 → P codeStream) →
     (c ≡ 5 → P codeGamma) → (c ≡ 6 → P codeDelta)
-    → P codeBatches → P (codeOf c)
+    → P codeBatches → (c ≡ 8 → P codeDirect) → P (codeOf c)
 unfolding codeOf
-by-number P c one two three four five six seven =
+by-number P c one two three four five six seven eight =
     by-test (eqb c 1) (λ t. rw t (one (eqb-true c 1 t))) (λ f.
     rw f
     (by-test (eqb c 2) (λ t. rw t (two (eqb-true c 2 t))) (λ f.
@@ -28,11 +28,14 @@ by-number P c one two three four five six seven =
     rw f
     (by-test (eqb c 5) (λ t. rw t (five (eqb-true c 5 t))) (λ f.
     rw f
-    (by-test (eqb c 6) (λ t. rw t (six (eqb-true c 6 t))) (λ f. rw f seven)))))))))))
+    (by-test (eqb c 6) (λ t. rw t (six (eqb-true c 6 t))) (λ f.
+    rw f
+    (by-test (eqb c 8) (λ t. rw t (eight (eqb-true c 8 t))) (λ f. rw f seven)))))))))))))
 
 pub by-code {ℓ} : (P : Code → Type ℓ) → P codeVByte → P codeGroups → P codeG8IU → P codeStream → P codeGamma → P codeDelta → P codeBatches
-    → (c : ℕ) → P (codeOf c)
-by-code P one two three four five six seven c = by-number P c (λ e. one) (λ e. two) (λ e. three) (λ e. four) (λ e. five) (λ e. six) seven
+    → P codeDirect → (c : ℕ) → P (codeOf c)
+by-code P one two three four five six seven eight c =
+    by-number P c (λ e. one) (λ e. two) (λ e. three) (λ e. four) (λ e. five) (λ e. six) seven (λ e. eight)
 
 -- a number takes a byte at least
 pub length-some : (x : ℕ) → 0 < byteLength x

@@ -1,4 +1,4 @@
--- The marked examples of document 01 and of request P1 that are to be proved of the meaning, and the listing that document 01 prints: each closes by
+-- The marked examples of document 01 and of requests P1 and P4 that are to be proved of the meaning, and the listing that document 01 prints: each closes by
 -- computation. Assumes nothing.
 use mathlib.Core.Path.{_≡_, refl}
 use mathlib.Core.List.{[], _∷_, _++_}
@@ -49,6 +49,23 @@ batches-17 = refl
 batches-empty : write (code 7) [] ≡ []
 unfolding meaning
 batches-empty = refl
+
+-- request P4's
+direct-001 : write (code 8) (1024 ∷ 12 ∷ 10 ∷ []) ≡ 4 ∷ 0 ∷ 0 ∷ 0 ∷ 0x0e ∷ 0x00 ∷ 0x04 ∷ 0x0c ∷ 0x0a ∷ []
+unfolding meaning
+direct-001 = refl
+
+direct-zero : write (code 8) (0 ∷ []) ≡ 1 ∷ 0 ∷ 0 ∷ 0 ∷ 0x01 ∷ 0x00 ∷ []
+unfolding meaning
+direct-zero = refl
+
+direct-empty : write (code 8) [] ≡ 0 ∷ 0 ∷ 0 ∷ 0 ∷ []
+unfolding meaning
+direct-empty = refl
+
+direct-lengths : write (code 8) (255 ∷ 256 ∷ 4294967295 ∷ []) ≡ 7 ∷ 0 ∷ 0 ∷ 0 ∷ 0x45 ∷ 0xff ∷ 0x00 ∷ 0x01 ∷ 0xff ∷ 0xff ∷ 0xff ∷ 0xff ∷ []
+unfolding meaning
+direct-lengths = refl
 
 g8iu : write (code 3) (1 ∷ 2 ∷ 3 ∷ 1024 ∷ []) ≡ 0xe8 ∷ 0x01 ∷ 0x02 ∷ 0x03 ∷ 0x00 ∷ 0x04 ∷ 0x00 ∷ 0x00 ∷ 0x00 ∷ []
 unfolding meaning

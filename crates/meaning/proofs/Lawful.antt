@@ -1,12 +1,12 @@
 -- What is proved of every code. Assumes nothing.
-use Prim.Native.Nat.{ℕ, _*_, _≤_, _<_}
+use Prim.Native.Nat.{ℕ, _+_, _*_, _≤_, _<_}
 use mathlib.Core.Path.{_≡_}
 use mathlib.Core.List.{List, []}
 use lib.ListN.{length, getD}
-use Rattle.meaning.specs.Answer.{given}
-use Rattle.meaning.specs.Limits.{numberLimit}
+use Rattle.meaning.specs.Answer.{Answer, given, refused}
+use Rattle.meaning.specs.Limits.{numberLimit, mostNumbers}
 use Rattle.meaning.specs.Places.{Below, Spare}
-use Rattle.meaning.specs.Codes.{Code, readCode, lookCode}
+use Rattle.meaning.specs.Codes.{Code, Way, byUnits, directly, lookBy, readCode, lookCode}
 use Rattle.meaning.specs.declared.Position.{Position}
 use Rattle.meaning.proofs.Answers.{Faulty, bind-given}
 use Rattle.meaning.proofs.Units.{Good, look-read}
@@ -17,6 +17,18 @@ pub record Read (c : Code) (body : List ℕ) (n : ℕ) (xs : List ℕ) : Type 0 
   pub many : length xs ≡ n
   pub small : Below numberLimit xs
 
+-- what a direct lookup owes: where reading succeeds it gives the number there, it refuses where the start does, and whatever it is refused by is a fault
+pub record Direct (c : Code) (look : List ℕ → ℕ → Answer ℕ) : Type 0 where
+  pub agrees : (body : List ℕ) (n : ℕ) (xs : List ℕ) → Below 256 body → readCode c body n ≡ given xs → (place : ℕ) → place < length xs
+      → look body place ≡ given (getD xs place 0)
+  pub starts : (body : List ℕ) (n e place : ℕ) → c .start body n ≡ refused e → look body place ≡ refused e
+  pub faulty : (body : List ℕ) (place : ℕ) → Faulty (look body place)
+
+-- a lookup by units owes nothing more: its laws are the same for every code
+abbrev pub Looked : Code → Way → Type 0
+Looked c byUnits = Unit {0}
+Looked c (directly look) = Direct c look
+
 pub record Lawful (c : Code) : Type 0 where
   -- a unit holds a number at least, and none beyond the list
   pub good : (body : List ℕ) → Below 256 body → Good (c .unit body)
@@ -25,21 +37,38 @@ pub record Lawful (c : Code) : Type 0 where
   pub faulty : (body : List ℕ) (left : ℕ) (p : Position) → Faulty (c .unit body left p)
   -- any unit may be the first
   pub fresh : Spare (c .joins) [] 0
-  -- (a) reading what was written gives the list
-  pub forth : (xs : List ℕ) → Below numberLimit xs → readCode c (c .write xs) (length xs) ≡ given xs
+  -- (a) reading what was written gives the list, where that is no longer than a column
+  pub forth : (xs : List ℕ) → length xs ≤ mostNumbers → Below numberLimit xs → readCode c (c .write xs) (length xs) ≡ given xs
   -- (b) and back
   pub back : (body : List ℕ) (n : ℕ) (xs : List ℕ) → Below 256 body → readCode c body n ≡ given xs → Read c body n xs
   -- (d) the written length is at most the worst size; and what is written are bytes
   pub most : (xs : List ℕ) → Below numberLimit xs → length (c .write xs) ≤ c .worst (length xs)
   pub bytes : (xs : List ℕ) → Below numberLimit xs → Below 256 (c .write xs)
-  -- the worst size grows with the list, by 9 bytes a number at most
+  -- the worst size grows with the list, by 9 bytes a number at most; an empty body may have 4
   pub grows : (k n : ℕ) → k ≤ n → c .worst k ≤ c .worst n
-  pub nine : (n : ℕ) → c .worst n ≤ 9 * n
+  pub nine : (n : ℕ) → c .worst n ≤ 9 * n + 4
+  -- how numbers are looked up
+  pub looked : Looked c (c .way)
 
 -- (c) where reading succeeds, a lookup at every place gives the number there, whatever the code
-pub look-code : (c : Code) (body : List ℕ) (n : ℕ) (xs : List ℕ) → readCode c body n ≡ given xs → (place : ℕ) → place < length xs
-    → lookCode c body n place ≡ given (getD xs place 0)
-unfolding readCode lookCode
-look-code c body n xs e place h =
-    let (p, ep, er) = bind-given (c .start body n) _ xs e in
-    rw ep (look-read (c .unit body) (c .joins) (c .done body) n [] p xs er place h)
+module _ (c : Code) (body : List ℕ) (n : ℕ) (xs : List ℕ) (b : Below 256 body) (e : readCode c body n ≡ given xs) (place : ℕ) (h : place < length xs) where
+  look-by : (w : Way) → Looked c w → lookBy c w body n place ≡ given (getD xs place 0)
+  unfolding readCode
+  look-by byUnits l =
+      let (p, ep, er) = bind-given (c .start body n) _ xs e in
+      rw ep (look-read (c .unit body) (c .joins) (c .done body) n [] p xs er place h)
+  look-by (directly look) l = l .agrees body n xs b e place h
+
+  pub look-code : Lawful c → lookCode c body n place ≡ given (getD xs place 0)
+  unfolding lookCode
+  look-code l = look-by (c .way) (l .looked)
+
+-- where the start is refused, so is every lookup
+module _ {c : Code} (l : Lawful c) (body : List ℕ) (n e place : ℕ) (h : c .start body n ≡ refused e) where
+  starts-by : (w : Way) → Looked c w → lookBy c w body n place ≡ refused e
+  starts-by byUnits t = rw h
+  starts-by (directly look) t = t .starts body n e place h
+
+  pub look-starts : lookCode c body n place ≡ refused e
+  unfolding lookCode
+  look-starts = starts-by (c .way) (l .looked)

@@ -3,6 +3,7 @@ pub mod Answers
 pub mod Tests
 pub mod Bounds
 pub mod Stores
+pub mod Ranks
 pub mod Units
 pub mod Loops
 pub mod Codes

@@ -1,12 +1,13 @@
--- The bits of a body, highest bit of each byte first; spare bits of the last byte 0.
+-- The bits of bytes: in gamma and delta highest bit of each byte first, in G8IU's control byte and in code 8 lowest first. Spare bits of the last byte are 0.
 use Prim.Native.Nat.{ℕ, zero, suc, _+_, _*_, _/_, _%_, _^_}
 use mathlib.Core.Bool.{cond}
 use mathlib.Core.List.{List, [], _∷_}
 use lib.Dec.{eqb}
-use lib.ListN.{length, getD, drop}
+use lib.ListN.{length, getD, take, drop}
 use Rattle.meaning.specs.Lists.{joined}
 
--- the n lowest bits of v, highest first
+-- ---- highest first
+-- the n lowest bits of v
 unfoldable pub bitsHigh : ℕ → ℕ → List ℕ
 bitsHigh zero v = []
 bitsHigh (suc n) v = v / 2 ^ n % 2 ∷ bitsHigh n v
@@ -33,6 +34,26 @@ packIn (suc n) l = byteOf l ∷ packIn n (drop 8 l)
 unfoldable pub pack : List ℕ → List ℕ
 pack l = packIn ((length l + 7) / 8) l
 
+-- ---- lowest first
+-- the k lowest bits of c, and the number that bits make
+unfoldable pub bitsLow : ℕ → ℕ → List ℕ
+bitsLow zero c = []
+bitsLow (suc k) c = c % 2 ∷ bitsLow k (c / 2)
+
+unfoldable pub numberLow : List ℕ → ℕ
+numberLow [] = 0
+numberLow (b ∷ bs) = b + 2 * numberLow bs
+
+-- the bits of bytes, lowest bit of each byte first
+unfoldable pub lowBits : List ℕ → List ℕ
+lowBits bytes = joined (bitsLow 8) bytes
+
+-- so many bytes of a list of bits; a bit that is not there is 0
+unfoldable pub packLow : ℕ → List ℕ → List ℕ
+packLow zero bits = []
+packLow (suc n) bits = numberLow (take 8 bits) ∷ packLow n (drop 8 bits)
+
+-- ---- of any bits
 -- how many zeros come first
 unfoldable pub zerosFirst : List ℕ → ℕ
 zerosFirst [] = 0

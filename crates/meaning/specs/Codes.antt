@@ -1,4 +1,5 @@
--- The seven codes, each as what it takes to write a list, to read units and to tell the worst size. Strict reading and lookup are the same for all.
+-- The eight codes, each as what it takes to write a list, to read units, to look a number up and to tell the worst size. Strict reading is the same for
+-- all.
 use Prim.Native.Nat.{ℕ, _+_, _*_, _/_}
 use mathlib.Core.Bool.{Bool, true, _&&_, cond}
 use mathlib.Core.List.{List, []}
@@ -13,7 +14,13 @@ use Rattle.meaning.specs.VByte.{vbyte, unitVByte}
 use Rattle.meaning.specs.Groups.{Grouping, fours, batches, groupCount, writeGroups, writeStream, unitGroups, unitStream}
 use Rattle.meaning.specs.G8IU.{writeG8IU, unitG8IU, joinsG8IU}
 use Rattle.meaning.specs.Elias.{writeGamma, writeDelta, gammaWord, deltaWord, unitElias, doneElias}
+use Rattle.meaning.specs.Direct.{writeDirect, worstDirect, partsFit, unitDirect, doneDirect, lookDirect}
 use Rattle.meaning.specs.declared.Position.{Position}
+
+-- how a number is looked up: unit by unit from the first, or directly, by the body and the place
+pub data Way : Type 0 where
+  byUnits : Way
+  directly : (List ℕ → ℕ → Answer ℕ) → Way
 
 pub record Code : Type 0 where
   -- the bytes of a list, and how many they are at worst for n numbers
@@ -26,6 +33,8 @@ pub record Code : Type 0 where
   -- in reading: whether a unit may follow another, and whether nothing is left over
   pub joins : List ℕ → List ℕ → Bool
   pub done : List ℕ → Position → Bool
+  -- how a number is looked up
+  pub way : Way
 
 -- a body whose first unit begins with its first byte, and which ends with its last unit
 abbrev pub fromFirst : List ℕ → ℕ → Answer Position
@@ -39,7 +48,7 @@ always before numbers = true
 
 abbrev pub codeVByte : Code
 codeVByte =
-    record { write = joined vbyte; worst = λ n. 5 * n; start = fromFirst; unit = unitVByte; joins = always; done = toLast }
+    record { write = joined vbyte; worst = λ n. 5 * n; start = fromFirst; unit = unitVByte; joins = always; done = toLast; way = byUnits }
 
 -- codes 2, 4 and 7: 4n plus n/4 rounded up
 abbrev pub worstGroups : ℕ → ℕ
@@ -48,7 +57,7 @@ worstGroups n = 4 * n + groupCount n
 -- codes 2 and 7: groups one behind the other
 abbrev pub codeBy : Grouping → Code
 codeBy g =
-    record { write = writeGroups g; worst = worstGroups; start = fromFirst; unit = unitGroups g; joins = always; done = toLast }
+    record { write = writeGroups g; worst = worstGroups; start = fromFirst; unit = unitGroups g; joins = always; done = toLast; way = byUnits }
 
 abbrev pub codeGroups : Code
 codeGroups = codeBy fours
@@ -59,7 +68,7 @@ codeBatches = codeBy batches
 -- n/2 rounded up, then times 9
 abbrev pub codeG8IU : Code
 codeG8IU =
-    record { write = writeG8IU; worst = λ n. (n + 1) / 2 * 9; start = fromFirst; unit = unitG8IU; joins = joinsG8IU; done = toLast }
+    record { write = writeG8IU; worst = λ n. (n + 1) / 2 * 9; start = fromFirst; unit = unitG8IU; joins = joinsG8IU; done = toLast; way = byUnits }
 
 -- Stream VByte's control bytes must fit the body
 abbrev pub codeStream : Code
@@ -71,6 +80,7 @@ codeStream =
       unit = unitStream;
       joins = always;
       done = λ body p. eqb (p .tail .byte) (length body);
+      way = byUnits;
     }
 
 -- 65n/8 and 43n/8, rounded up
@@ -83,6 +93,7 @@ codeGamma =
       unit = unitElias gammaWord;
       joins = always;
       done = doneElias;
+      way = byUnits;
     }
 
 abbrev pub codeDelta : Code
@@ -94,11 +105,25 @@ codeDelta =
       unit = unitElias deltaWord;
       joins = always;
       done = doneElias;
+      way = byUnits;
     }
 
--- 1 VByte, 2 group of four, 3 G8IU, 4 Stream VByte, 5 gamma, 6 delta, 7 four-wise null suppression
+-- the parts' ends must fit the body
+abbrev pub codeDirect : Code
+codeDirect =
+    record {
+      write = writeDirect;
+      worst = worstDirect;
+      start = λ body n. need (partsFit body) fault (given (atBit 0));
+      unit = unitDirect;
+      joins = always;
+      done = doneDirect;
+      way = directly lookDirect;
+    }
+
+-- 1 VByte, 2 group of four, 3 G8IU, 4 Stream VByte, 5 gamma, 6 delta, 7 four-wise null suppression, 8 the directly addressed list
 abbrev pub lastCode : ℕ
-lastCode = 7
+lastCode = 8
 
 unfoldable pub isCode : ℕ → Bool
 isCode c = leb 1 c && leb c lastCode
@@ -110,12 +135,17 @@ codeOf c =
     (cond (eqb c 3) codeG8IU
     (cond (eqb c 4) codeStream
     (cond (eqb c 5) codeGamma
-    (cond (eqb c 6) codeDelta codeBatches)))))
+    (cond (eqb c 6) codeDelta
+    (cond (eqb c 8) codeDirect codeBatches))))))
 
 -- the strict reading of n numbers from a body
 unfoldable pub readCode : Code → List ℕ → ℕ → Answer (List ℕ)
 readCode c body n = bind (c .start body n) (readUnits (c .unit body) (c .joins) (c .done body) n [])
 
--- the number at a place of n
+-- the number at a place of n, by the code's way
+abbrev pub lookBy : Code → Way → List ℕ → ℕ → ℕ → Answer ℕ
+lookBy c byUnits body n place = bind (c .start body n) (lookUnits (c .unit body) n place)
+lookBy c (directly look) body n place = look body place
+
 unfoldable pub lookCode : Code → List ℕ → ℕ → ℕ → Answer ℕ
-lookCode c body n place = bind (c .start body n) (lookUnits (c .unit body) n place)
+lookCode c body n place = lookBy c (c .way) body n place

@@ -7,13 +7,16 @@ use lib.ListN.{length}
 use Rattle.meaning.specs.Answer.{Answer, number, list, amount, filled}
 use Rattle.meaning.specs.Operations.{Order, writeSheet, writeApart, check, readSheet, lookSheet, fetch, countBoard}
 use Rattle.meaning.specs.Plan.{judge, worstSize}
-use Rattle.meaning.specs.Says.{judgedSays, sizedSays, readingSays, foundSays, checkedSays, countedSays}
+use Rattle.meaning.specs.Rank.{rank, select}
+use Rattle.meaning.specs.Says.{judgedSays, sizedSays, readingSays, foundSays, checkedSays, countedSays, rankedSays, selectedSays}
 use Rattle.meaning.specs.declared.Judged.{Judged}
 use Rattle.meaning.specs.declared.Sized.{Sized}
 use Rattle.meaning.specs.declared.Reading.{Reading}
 use Rattle.meaning.specs.declared.Found.{Found}
 use Rattle.meaning.specs.declared.Checked.{Checked}
 use Rattle.meaning.specs.declared.Counted.{Counted}
+use Rattle.meaning.specs.declared.Ranked.{Ranked}
+use Rattle.meaning.specs.declared.Selected.{Selected}
 
 -- judge::judge
 abbrev pub Judges : ℕ → List ℕ → Judged → Type 0
@@ -55,3 +58,11 @@ Counts sheet work r = countedSays r ≡ countBoard sheet (length work)
 -- table::fetch: a part of the sheet, and the refusal's number
 abbrev pub Fetches : List ℕ → ℕ → List ℕ × ℕ → Type 0
 Fetches sheet k a = (a .0 ≡ list (fetch sheet k)) × (a .1 ≡ number (fetch sheet k))
+
+-- bits::rank
+abbrev pub Ranks : List ℕ → ℕ → Ranked → Type 0
+Ranks bytes bit r = rankedSays r ≡ rank bytes bit
+
+-- bits::select
+abbrev pub Selects : List ℕ → ℕ → Selected → Type 0
+Selects bytes k r = selectedSays r ≡ select bytes k

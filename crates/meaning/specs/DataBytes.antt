@@ -1,4 +1,4 @@
--- What codes 2, 3, 4 and 7 share: numbers in the fewest bytes, 1 to 4 each, least significant first.
+-- What codes 2, 3, 4, 7 and 8 share: numbers in the fewest bytes, 1 to 4 each, least significant first.
 use Prim.Native.Nat.{ℕ, _^_}
 use mathlib.Core.Bool.{cond}
 use mathlib.Core.List.{List, [], _∷_}

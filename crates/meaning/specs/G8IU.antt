@@ -1,12 +1,13 @@
 -- G8IU: blocks of a control byte and 8 data bytes. Bit i is 0 when data byte i ends a number. A block holds as many numbers as its control byte
 -- has zero bits, at least one; ones above the last zero are waste, and waste bytes are 0. A block takes the next number whenever it fits.
 -- Unit: a block; its own rules include no number beyond the list, and waste of at most 3 unless the list ends there.
-use Prim.Native.Nat.{ℕ, zero, suc, _+_, _-_, _*_, _/_, _%_}
+use Prim.Native.Nat.{ℕ, zero, suc, _+_, _-_}
 use mathlib.Core.Bool.{Bool, true, not, _||_, cond}
 use mathlib.Core.List.{List, [], _∷_, _++_, map}
 use lib.Dec.{leb, eqb}
 use lib.ListN.{length, getD, take, drop, replicate}
 use Rattle.meaning.specs.Answer.{Answer, given, bind, need}
+use Rattle.meaning.specs.Bits.{bitsLow, numberLow}
 use Rattle.meaning.specs.Limits.{fault}
 use Rattle.meaning.specs.Lists.{all, sum, joined}
 use Rattle.meaning.specs.DataBytes.{byteLength, dataBytes, dataIn}
@@ -26,15 +27,6 @@ blocksFrom taken (x ∷ xs) =
 unfoldable pub blocks : List ℕ → List (List ℕ)
 blocks [] = []
 blocks (x ∷ xs) = blocksFrom (x ∷ []) xs
-
--- the k lowest bits of c, lowest first, and the number that bits make
-unfoldable pub bitsLow : ℕ → ℕ → List ℕ
-bitsLow zero c = []
-bitsLow (suc k) c = c % 2 ∷ bitsLow k (c / 2)
-
-unfoldable pub numberLow : List ℕ → ℕ
-numberLow [] = 0
-numberLow (b ∷ bs) = b + 2 * numberLow bs
 
 -- a number's bits in the control byte: 0 at its last byte alone
 unfoldable pub endBits : ℕ → List ℕ

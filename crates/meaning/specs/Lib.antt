@@ -8,9 +8,11 @@ pub mod Units
 pub mod VByte
 pub mod DataBytes
 pub mod Groups
-pub mod G8IU
 pub mod Bits
+pub mod G8IU
 pub mod Elias
+pub mod Rank
+pub mod Direct
 pub mod Codes
 pub mod Plan
 pub mod Stages

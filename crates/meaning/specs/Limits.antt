@@ -36,7 +36,7 @@ rising = 1
 abbrev pub lastEdition : ℕ
 lastEdition = 2
 
--- sheet below 2 or above 65,536 bytes, byte 0 neither 1 nor 2, over 16 columns
+-- sheet below 2 or above 65,536 bytes, byte 0 neither 1 nor 2, over 16 columns; in rank and select a slice above 65,536 bytes
 abbrev pub noSheet : ℕ
 noSheet = 1
 
@@ -56,7 +56,7 @@ unfitPlan = 4
 abbrev pub noColumn : ℕ
 noColumn = 5
 
--- place not below the count
+-- place not below the count; in rank and select a bit or a one that isn't there
 abbrev pub noPlace : ℕ
 noPlace = 6
 

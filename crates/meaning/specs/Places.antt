@@ -46,7 +46,7 @@ pub record Got (a : Answer (List ℕ)) (from : ℕ) (work work′ : List ℕ) (r
 -- what writing asks: the list stands in the slice, and no offset passes the largest number
 pub record Source (list : List ℕ) (from n at : ℕ) : Type 0 where
   pub inside : from + n ≤ length list
-  pub short : at + 9 * n < 2 ^ 63
+  pub short : at + 9 * n + 4 < 2 ^ 63
 
 -- what reading asks: work has room for the list, and the body is no longer than a sheet
 pub record Target (body work : List ℕ) (from n : ℕ) : Type 0 where

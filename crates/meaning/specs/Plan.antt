@@ -1,4 +1,4 @@
--- A plan is prefix text in bytes, zero-filled to 15. Codes: 1 to 7. Stages: 16 reference, 17 differences, each followed by one plan; 18 runs,
+-- A plan is prefix text in bytes, zero-filled to 15. Codes: 1 to 8. Stages: 16 reference, 17 differences, each followed by one plan; 18 runs,
 -- followed by two. Here it is a tree, `bad` where its bytes are malformed.
 use Prim.Native.Nat.{ℕ, zero, suc, _+_}
 use mathlib.Core.Bool.{Bool, true, false, _&&_, cond}

@@ -20,6 +20,10 @@ use Rattle.meaning.specs.declared.Checked.the-variants as checked
 use Rattle.meaning.specs.declared.Tally.{Tally}
 use Rattle.meaning.specs.declared.Counted.{Counted}
 use Rattle.meaning.specs.declared.Counted.the-variants as counted
+use Rattle.meaning.specs.declared.Ranked.{Ranked}
+use Rattle.meaning.specs.declared.Ranked.the-variants as ranked
+use Rattle.meaning.specs.declared.Selected.{Selected}
+use Rattle.meaning.specs.declared.Selected.the-variants as selected
 
 -- a unit: where the next begins, and the numbers that stand beside
 abbrev pub unitSays : UnitTold → List ℕ → Answer (Position × List ℕ)
@@ -59,3 +63,11 @@ checkedSays (checked.Refused e k) = blamed e k
 abbrev pub countedSays : Counted → Verdict × Tally
 countedSays (counted.Tallies t) = (passed, t)
 countedSays (counted.Refused e k) = (blamed e k, noTally)
+
+abbrev pub rankedSays : Ranked → Answer ℕ
+rankedSays (ranked.Ones n) = given n
+rankedSays (ranked.Refused e) = refused e
+
+abbrev pub selectedSays : Selected → Answer ℕ
+selectedSays (selected.At b) = given (b .index)
+selectedSays (selected.Refused e) = refused e

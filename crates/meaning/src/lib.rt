@@ -11,7 +11,7 @@ pub const MOST_BYTES: usize = 65536;
 pub const PLAN_BYTES: usize = 15;
 
 // Codes are numbered from 1 to this.
-pub const LAST_CODE: u8 = 7;
+pub const LAST_CODE: u8 = 8;
 
 // The kinds: any numbers, or rising ones, by the edition.
 pub const ANY: u8 = 0;
@@ -63,12 +63,13 @@ pub struct Offset {
     pub byte: usize,
 }
 
-// A bit of a body, counted from the highest bit of its first byte.
+// A bit, counted from the first byte on: in gamma and delta highest bit of each byte first, in code 8 and in rank and select lowest first.
 pub struct Bit {
     pub index: usize,
 }
 
-// Where a unit begins: its first byte, or its control byte; in Stream VByte also its data, the tail; in gamma and delta a bit. What a code does not use is 0.
+// Where a unit begins: its first byte, or its control byte; in Stream VByte also its data, the tail; in gamma, delta and code 8 a bit. What a code does
+// not use is 0.
 pub struct Position {
     pub head: Offset,
     pub tail: Offset,
@@ -137,4 +138,16 @@ pub struct Tally {
 pub enum Counted {
     Tallies(Tally),
     Refused(u8, usize),
+}
+
+// Rank: how many ones stand before a bit.
+pub enum Ranked {
+    Ones(usize),
+    Refused(u8),
+}
+
+// Select: the bit of a one.
+pub enum Selected {
+    At(Bit),
+    Refused(u8),
 }

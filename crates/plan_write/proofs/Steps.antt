@@ -46,7 +46,7 @@ module _ {l n from at len : ℕ} (f : Fit l n from at len) where
   pub fit-list : from + n ≤ len
   fit-list = omega (arith, f .within, room-least l n)
 
-  pub fit-code : at + 9 * n < 2 ^ 63
+  pub fit-code : at + 9 * n + 4 < 2 ^ 63
   fit-code = omega (arith, f .below, cap-least l n)
 
   -- under a stage: its inner plan, one more list behind the list, and a header

@@ -85,16 +85,16 @@ any-serves : (xs : List ℕ) → Serves any xs
 any-serves xs t = let z : _≡_ {A = ℕ} 0 1 = cc in absurd (omega arith)
 
 module _ (laws : (c : ℕ) → Lawful (codeOf c)) where
-  forth-code : (c : ℕ) (xs : List ℕ) → Below numberLimit xs → Reads (code c) xs
+  forth-code : (c : ℕ) (xs : List ℕ) → length xs ≤ mostNumbers → Below numberLimit xs → Reads (code c) xs
   unfolding read write
-  forth-code c xs h = laws c .forth xs h
+  forth-code c xs l h = laws c .forth xs l h
 
   -- the sizes are such that a body's length is a number
-  pub forth : (p : Plan) (kind : ℕ) (xs : List ℕ) → passes kind p ≡ true → Serves kind xs → Below numberLimit xs → length xs < numberLimit
+  pub forth : (p : Plan) (kind : ℕ) (xs : List ℕ) → passes kind p ≡ true → Serves kind xs → Below numberLimit xs → length xs ≤ mostNumbers
       → worstPlan p (length xs) < numberLimit → read p (write p xs) (length xs) ≡ given xs
   unfolding passes worstPlan
   forth bad kind xs s o h l w = let z : _≡_ {A = ℕ} 0 1 = cc in absurd (omega arith)
-  forth (code c) kind xs s o h l w = forth-code c xs h
+  forth (code c) kind xs s o h l w = forth-code c xs l h
   forth (reference p) kind xs s o h l w =
       let m = least xs in
       let n = less-length m xs in
@@ -111,10 +111,10 @@ module _ (laws : (c : ℕ) → Lawful (codeOf c)) where
       let few = runs-few xs in
       let many = runs-many xs in
       let hv = run-values-below numberLimit xs h in
-      let hl = run-lengths-below numberLimit xs l in
+      let hl = run-lengths-below numberLimit xs (omega arith) in
       let wp = worst-grows laws p (length (runValues xs)) (length xs) few in
       let wq = worst-grows laws q (length (runLengths xs)) (length xs) (omega arith) in
-      forth-runs p q xs l (omega (arith, most laws p (runValues xs) hv (omega arith)))
+      forth-runs p q xs (omega arith) (omega (arith, most laws p (runValues xs) hv (omega arith)))
       (forth p kind (runValues xs) a (λ t. runs-rise xs (o t)) hv (omega arith) (omega arith))
       (forth q any (runLengths xs) b (any-serves (runLengths xs)) hl (omega arith) (omega arith))
 
@@ -123,4 +123,4 @@ module _ (laws : (c : ℕ) → Lawful (codeOf c)) where
       → Below numberLimit xs → length xs ≤ mostNumbers
       → read (planOf bytes) (write (planOf bytes) xs) (length xs) ≡ given xs
   forth-plan bytes edition kind xs s o h l =
-      forth (planOf bytes) kind xs s (kind-serves edition kind xs o) h (omega arith) (omega (arith, plan-worst laws bytes (length xs)))
+      forth (planOf bytes) kind xs s (kind-serves edition kind xs o) h l (omega (arith, plan-worst laws bytes (length xs)))

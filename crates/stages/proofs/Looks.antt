@@ -87,16 +87,16 @@ look-runs p q body n place k xs vs ls e ek u many h i j =
     (i (f .run) (omega (arith, f .inside)) ∙ ap (λ (x : ℕ). given x) (f .value ∙ ap₂ (λ (l : List ℕ) (m : ℕ). getD l m 0) (u .is) (sub-zero place)))
 
 module _ (laws : (c : ℕ) → Lawful (codeOf c)) where
-  look-plain : (c : ℕ) (body : List ℕ) (n : ℕ) (xs : List ℕ) → read (code c) body n ≡ given xs → (place : ℕ) → place < length xs
+  look-plain : (c : ℕ) (body : List ℕ) (n : ℕ) (xs : List ℕ) → Below 256 body → read (code c) body n ≡ given xs → (place : ℕ) → place < length xs
       → look (code c) body n place ≡ given (getD xs place 0)
   unfolding read look
-  look-plain c body n xs e place h = look-code (codeOf c) body n xs e place h
+  look-plain c body n xs b e place h = look-code (codeOf c) body n xs b e place h (laws c)
 
   pub looks : (p : Plan) (body : List ℕ) (n : ℕ) (xs : List ℕ) → Below 256 body → read p body n ≡ given xs → (place : ℕ) → place < length xs
       → look p body n place ≡ given (getD xs place 0)
   unfolding read
   looks bad body n xs b e place h = absurd (not-given _ _ e)
-  looks (code c) body n xs b e place h = look-plain c body n xs e place h
+  looks (code c) body n xs b e place h = look-plain c body n xs b e place h
   looks (reference p) body n xs b e place h =
       let s = reference-read p body n xs e in
       look-reference p body n xs s place h

@@ -28,7 +28,7 @@ less-length m xs = scan-length lessBy _ _ less-scan m xs
 pub gaps-length : (xs : List ℕ) → length (lessBefore 0 xs) ≡ length xs
 gaps-length xs = scan-length lessBefore _ _ gaps-scan 0 xs
 
-pub cap-least : (stages n : ℕ) → 9 * n ≤ cap stages n
+pub cap-least : (stages n : ℕ) → 9 * n + 4 ≤ cap stages n
 unfolding cap
 cap-least zero n = omega arith
 cap-least (suc stages) n = omega (arith, cap-least stages n)
@@ -43,7 +43,7 @@ module _ (laws : (c : ℕ) → Lawful (codeOf c)) where
   worst-grows (differences p) k n h = worst-grows p k n h
   worst-grows (runs p q) k n h = omega (arith, worst-grows p k n h, worst-grows q k n h)
 
-  worst-by : (n m k : ℕ) (p q : Plan) → worstPlan p n ≤ m → worstPlan q n ≤ m → 9 * n ≤ m → (a b c d : Bool)
+  worst-by : (n m k : ℕ) (p q : Plan) → worstPlan p n ≤ m → worstPlan q n ≤ m → 9 * n + 4 ≤ m → (a b c d : Bool)
       → worstPlan (cond a (code k) (cond b (reference p) (cond c (differences p) (cond d (runs p q) bad)))) n ≤ 8 + (m + m)
   unfolding worstPlan
   worst-by n m k p q h i l true b c d = omega (arith, laws k .nine n)
@@ -52,7 +52,7 @@ module _ (laws : (c : ℕ) → Lawful (codeOf c)) where
   worst-by n m k p q h i l false false false true = omega arith
   worst-by n m k p q h i l false false false false = omega arith
 
-  worst-code : (n k : ℕ) (a : Bool) → worstPlan (cond a (code k) bad) n ≤ 9 * n
+  worst-code : (n k : ℕ) (a : Bool) → worstPlan (cond a (code k) bad) n ≤ 9 * n + 4
   unfolding worstPlan
   worst-code n k true = laws k .nine n
   worst-code n k false = omega arith
@@ -68,7 +68,7 @@ module _ (laws : (c : ℕ) → Lawful (codeOf c)) where
       (isCode b) (leb 1 (suc stages) && eqb b 16) (leb 1 (suc stages) && eqb b 17) (leb 1 (suc stages) && eqb b 18)
 
   -- 15 plan bytes: a length of a body is then a number
-  pub plan-worst : (bytes : List ℕ) (n : ℕ) → worstPlan (planOf bytes) n ≤ 72 * n + 56
+  pub plan-worst : (bytes : List ℕ) (n : ℕ) → worstPlan (planOf bytes) n ≤ 72 * n + 88
   unfolding planOf cap
   plan-worst bytes n = omega (arith, worst-cap mostStages bytes 0 n)
 

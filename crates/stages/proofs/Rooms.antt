@@ -12,7 +12,7 @@ room-least zero n = omega arith
 room-least (suc l) n = omega arith
 
 -- three stages over a code: a whole plan
-pub top-room : (n : ℕ) → (room 3 n ≡ 7 * n) × (cap 3 n ≡ 72 * n + 56)
+pub top-room : (n : ℕ) → (room 3 n ≡ 7 * n) × (cap 3 n ≡ 72 * n + 88)
 unfolding room cap
 top-room n = (omega arith, omega arith)
 

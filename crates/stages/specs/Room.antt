@@ -11,7 +11,7 @@ room (suc stages) n = n + n + room stages n
 
 -- above the worst size of every plan with at most so many stages over a code
 unfoldable pub cap : ℕ → ℕ → ℕ
-cap zero n = 9 * n
+cap zero n = 9 * n + 4
 cap (suc stages) n = 8 + (cap stages n + cap stages n)
 
 -- what reading and lookup by a plan ask

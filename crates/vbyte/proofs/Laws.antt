@@ -163,10 +163,11 @@ lawful =
       begins = λ body n. tt;
       faulty = faulty;
       fresh = spare-always [];
-      forth = forth;
+      forth = λ xs few h. forth xs h;
       back = back;
       most = λ xs h. most xs;
       bytes = bytes;
       grows = λ k n h. omega arith;
       nine = λ n. omega arith;
+      looked = tt;
     }

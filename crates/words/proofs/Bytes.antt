@@ -2,9 +2,10 @@
 use Prim.Native.Nat.{ℕ, zero, suc, _+_, _*_, _/_, _%_, _^_, _<_}
 use mathlib.Core.Path.{_≡_, refl, ap}
 use mathlib.Core.List.{List, [], _∷_}
-use native.Mathlib.Nat.{pow-suc}
+use native.Mathlib.Nat.{mul-assoc, pow-suc}
 use native.Mathlib.Omega.{arith}
-use lib.ListN.{length}
+use lib.ListN.{length, take, drop}
+use lib.Pow.{pow-add}
 use Rattle.meaning.specs.Bytes.{bytesOf, numberOf}
 use Rattle.meaning.specs.Places.{Below}
 use Rattle.meaning.proofs.Bounds.{below-nil, below-cons}
@@ -41,3 +42,12 @@ bytes-number (b ∷ bs) h =
     let low : (b + 256 * numberOf bs) % 256 ≡ b = omega arith in
     let high : (b + 256 * numberOf bs) / 256 ≡ numberOf bs = omega arith in
     rw (low, high, bytes-number bs (λ i. h (suc i)))
+
+-- the number of bytes by their first l and the rest
+pub number-split : (l : ℕ) (bs : List ℕ) → numberOf bs ≡ numberOf (drop l bs) * 2 ^ (8 * l) + numberOf (take l bs)
+unfolding numberOf
+number-split zero bs = omega arith
+number-split (suc l) [] = omega arith
+number-split (suc l) (b ∷ bs) =
+    let e : 8 * suc l ≡ 8 * l + 8 = omega arith in
+    rw (e, pow-add 2 (8 * l) 8, ← (mul-assoc (numberOf (drop l bs)) (2 ^ (8 * l)) (2 ^ 8)), number-split l bs) (omega arith)

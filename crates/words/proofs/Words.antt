@@ -1,15 +1,16 @@
--- A number in 4 bytes: written, read and put together again. Assumes nothing.
-use Prim.Native.Nat.{ℕ, _+_, _≤_, _<_}
+-- A number in 4 bytes: written, read and put together again, and two of them as one of 8. Assumes nothing.
+use Prim.Native.Nat.{ℕ, _+_, _*_, _≤_, _<_}
 use mathlib.Core.Path.{_≡_, sym, ap, _∙_}
 use mathlib.Core.List.{List, _++_}
 use native.Mathlib.Omega.{arith}
 use lib.ListN.{length, take, drop, length-append, length-drop, take-append-drop}
-use lib.Seq.{take-at, drop-at, drop-drop, length-take-le}
+use lib.Seq.{take-at, drop-at, take-take, take-add, drop-drop, length-take-le}
 use Rattle.meaning.specs.Bytes.{bytesOf, numberOf, word, wordAt}
 use Rattle.meaning.specs.Limits.{numberLimit}
 use Rattle.meaning.specs.Places.{Below}
 use Rattle.meaning.proofs.Bounds.{below-take, below-drop}
-use Rattle.words.proofs.Bytes.{bytes-length, bytes-small, number-bytes, bytes-number}
+use Rattle.words.proofs.Bytes.{bytes-length, bytes-small, number-bytes, bytes-number, number-split}
+use Rattle.leaves.proofs.Parts.{part-length}
 
 module _ (x : ℕ) where
   pub word-length : length (word x) ≡ 4
@@ -50,3 +51,14 @@ word-whole body b h = ap (λ (l : List ℕ). l ++ drop 4 body) (word-at body 0 b
 pub word-drop : (bytes : List ℕ) (a b : ℕ) → wordAt (drop a bytes) b ≡ wordAt bytes (a + b)
 unfolding wordAt
 word-drop bytes a b = rw drop-drop
+
+-- two words are a number of 8 bytes
+pub words-number : (s : List ℕ) (at : ℕ) → at + 8 ≤ length s → wordAt s at + 4294967296 * wordAt s (at + 4) ≡ numberOf (take 8 (drop at s))
+unfolding wordAt
+words-number s at h =
+    let a : take 4 (take 8 (drop at s)) ≡ take 4 (drop at s) = take-take 4 8 (drop at s) (omega arith) in
+    let b : drop 4 (take 8 (drop at s)) ≡ take 4 (drop (at + 4) s) =
+    ap (drop 4) (take-add 4 4 (drop at s)) ∙ drop-at (take 4 (drop at s)) (take 4 (drop 4 (drop at s))) 4 (part-length s at 4 (omega arith))
+    ∙ ap (take 4) (drop-drop 4 at s) in
+    let e = number-split 4 (take 8 (drop at s)) in
+    rw (← a, ← b) (omega arith)

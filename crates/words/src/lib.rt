@@ -1,4 +1,4 @@
-// Numbers in bytes, least significant first: in the fewest that hold them, and in 4.
+// Numbers in bytes, least significant first: in the fewest that hold them, in 4, in 8, and in as many as are asked for.
 use leaves::put;
 use leaves::wide;
 use meaning::Offset;
@@ -7,9 +7,9 @@ ghost use mathlib.Core.Path.{_≡_};
 ghost use Prim.Native.Nat.{_<_, _+_, _*_, _≤_, _^_};
 ghost use lib.ListN.{length, take, drop};
 ghost use lib.Seq.{sets};
-ghost use Rattle.meaning.specs.Bytes.{numberOf, word, wordAt};
+ghost use Rattle.meaning.specs.Bytes.{bytesOf, numberOf, word, wordAt};
 ghost use Rattle.meaning.specs.DataBytes.{byteLength, fewest, dataBytes};
-ghost use Rattle.meaning.specs.Places.{part};
+ghost use Rattle.meaning.specs.Places.{Wrote, part};
 
 // How many bytes hold x: zero takes one.
 pub fn byte_length(x: u32) -> usize
@@ -49,6 +49,17 @@ pub fn word_at(bytes: &[u8], at: Offset) -> u32
     ensures { λ r. ⌜ r ≡ wordAt (now (bytes .entry)) (at .byte) ⌝ }
 {
     number_at(bytes, at, 4)
+}
+
+// The number in the 8 bytes from an offset on.
+pub fn eight_at(bytes: &[u8], at: Offset) -> u64
+    requires { ⌜ at .byte + 8 ≤ length (now bytes) ⌝ }
+    ensures { λ r. ⌜ r ≡ numberOf (take 8 (drop (at .byte) (now (bytes .entry)))) ⌝ }
+{
+    let low = word_at(bytes, at);
+    let middle = at.byte + 4;
+    let high = word_at(bytes, Offset { byte: middle });
+    low as u64 + 4294967296 * high as u64
 }
 
 // How many bytes the data of n numbers from a place on takes.
@@ -116,6 +127,21 @@ fn put_near(out: &mut [u8], at: Offset, x: u32) -> Offset
     Offset { byte: start + 4 }
 }
 
+// Puts the data of n numbers from a place on, and answers the offset after it.
+pub fn put_data(list: &[u32], from: Place, n: usize, out: &mut [u8], at: Offset) -> Offset
+    requires { ⌜ (from .number + n ≤ length (now list)) × (at .byte + 4 * n < 2 ^ 63) ⌝ }
+    ensures { λ r. ⌜ Wrote (dataBytes (part (now (list .entry)) (from .number) n)) (at .byte) (now (out .entry)) (now (out .exit)) r ⌝ }
+{
+    let first = from.number;
+    let mut to = at;
+    let mut i: usize = 0;
+    while i < n {
+        to = put_fewest(out, to, list[first + i]);
+        i += 1;
+    }
+    to
+}
+
 // A number is put in 4 bytes.
 pub fn put_word(out: &mut [u8], at: Offset, x: u32)
     requires { ⌜ at .byte + 4 < 2 ^ 64 ⌝ }
@@ -126,4 +152,19 @@ pub fn put_word(out: &mut [u8], at: Offset, x: u32)
     put(out, Offset { byte: start + 1 }, (x / 256 % 256) as u8);
     put(out, Offset { byte: start + 2 }, (x / 65536 % 256) as u8);
     put(out, Offset { byte: start + 3 }, (x / 16777216 % 256) as u8);
+}
+
+// Puts a number in so many bytes.
+pub fn put_number(out: &mut [u8], at: Offset, x: usize, bytes: usize)
+    requires { ⌜ at .byte + bytes < 2 ^ 64 ⌝ }
+    ensures { λ _. ⌜ now (out .exit) ≡ sets (now (out .entry)) (at .byte) (bytesOf bytes x) ⌝ }
+{
+    let first = at.byte;
+    let mut rest = x;
+    let mut i: usize = 0;
+    while i < bytes {
+        put(out, Offset { byte: first + i }, (rest % 256) as u8);
+        rest = rest / 256;
+        i += 1;
+    }
 }

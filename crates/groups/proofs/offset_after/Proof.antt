@@ -1,7 +1,7 @@
 -- A control byte for every four numbers, and the data. Assumes nothing.
 use native.Mathlib.Omega.{arith}
 use Rattle.meaning.specs.Groups.{groupCount}
-use Rattle.groups.proofs.Puts.{data-bound}
+use Rattle.words.proofs.Puts.{data-bound}
 use borrow.Author.Needs.{needs}
 use Rattle.groups.proofs.offset_after.Statement.{statement}
 use Rattle.groups.proofs.offset_after.Tie as tie

@@ -6,11 +6,11 @@ use Rattle.meaning.specs.Groups.{writeGroups}
 use Rattle.meaning.specs.Limits.{unitPlaces}
 use Rattle.meaning.specs.Places.{part}
 use Rattle.leaves.proofs.Putting.{wrote-past}
+use Rattle.words.proofs.Puts.{PutSo, put-start, put-turn, put-end, put-long}
 use Rattle.groups.specs.Layouts.{layoutOf}
 use Rattle.groups.specs.Parts.{groupsOf}
 use Rattle.groups.proofs.Pieces.{groups-none, groups-size}
-use Rattle.groups.proofs.Puts.{PutSo, put-start, put-turn, put-end, put-long, form-fields, size-is, Turn, groups-turn, groups-room}
-use Rattle.groups.proofs.Puts.{fields-low, fields-as, group-laid}
+use Rattle.groups.proofs.Puts.{form-fields, size-is, Turn, groups-turn, groups-room, fields-low, fields-as, group-laid}
 use borrow.Author.Needs.{needs}
 use Rattle.groups.proofs.write_by.Statement.{statement}
 use Rattle.groups.proofs.write_by.Tie as tie

@@ -1,5 +1,5 @@
 -- Each arm is its code's end. Assumes nothing.
-use Rattle.codes.proofs.Numbered.{code-1, code-2, code-3, code-4, code-5, code-6, code-7}
+use Rattle.codes.proofs.Numbered.{code-1, code-2, code-3, code-4, code-5, code-6, code-7, code-8}
 use borrow.Author.Needs.{needs}
 use Rattle.codes.proofs.dispatch.done_at.Statement.{statement}
 use Rattle.codes.proofs.dispatch.done_at.Tie as tie
@@ -36,9 +36,14 @@ returns-6 c =
 
 returns-7 : tie.Need-returns-7
 returns-7 c =
+    let arm : tie.At-match-keys7 = search in
+    rw (code-8 _ (arm .match .keys7)) (c .done3 .ensures)
+
+returns-8 : tie.Need-returns-8
+returns-8 c =
     let arm : tie.At-match-rest = search in
     let r = arm .match .rest in
-    rw (code-7 _ (r .0 .0 .0 .0 .0 .1) (r .0 .0 .0 .0 .1) (r .0 .0 .0 .1) (r .0 .0 .1) (r .0 .1) (r .1))
+    rw (code-7 _ (r .0 .0 .0 .0 .0 .0 .1) (r .0 .0 .0 .0 .0 .1) (r .0 .0 .0 .0 .1) (r .0 .0 .0 .1) (r .0 .0 .1) (r .0 .1) (r .1))
 
 pub done-at-spec : {M : Type 1} → statement M
 done-at-spec =
@@ -46,10 +51,12 @@ done-at-spec =
     (tie.spec
     (λ c κs. search needs)  -- done-requires
     (λ c κs. search needs)  -- done-requires-2
+    (λ c κs. search needs)  -- done-requires-3
     returns
     returns-2
     returns-3
     returns-4
     returns-5
     returns-6
-    returns-7)
+    returns-7
+    returns-8)

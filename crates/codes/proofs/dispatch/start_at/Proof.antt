@@ -1,11 +1,11 @@
--- Stream VByte begins behind its control bytes, every other code with the body. Assumes nothing.
+-- Stream VByte begins behind its control bytes, every other code with the body; code 8 asks that its parts fit. Assumes nothing.
 use Prim.Native.Nat.{ℕ, _+_, _/_, _%_}
 use mathlib.Core.Path.{_≡_, sym}
 use native.Mathlib.Omega.{arith}
 use borrow.Author.Tests.{lt-leb, le-leb}
 use borrow.Author.Needs.{needs}
 use Rattle.meaning.specs.Groups.{groupCount}
-use Rattle.codes.proofs.Numbered.{code-4, start-other}
+use Rattle.codes.proofs.Numbered.{code-4, code-8, start-other}
 use Rattle.codes.proofs.dispatch.start_at.Statement.{statement}
 use Rattle.codes.proofs.dispatch.start_at.Tie as tie
 
@@ -32,8 +32,23 @@ returns-2 c =
 
 returns-3 : tie.Need-returns-3
 returns-3 c =
+    let eight : tie.Then3 = search in
+    let asked : tie.After-parts-fit = search in
     let start : tie.Start = search in
-    sym (start-other (start .args .code) (start .args .body .now) (start .args .n) (c .if1 .left))
+    rw (code-8 (start .args .code) (eight .if3 .taken), ← (asked .parts-fit .ensures), c .if4 .taken)
+
+returns-4 : tie.Need-returns-4
+returns-4 c =
+    let eight : tie.Then3 = search in
+    let asked : tie.After-parts-fit = search in
+    let start : tie.Start = search in
+    rw (code-8 (start .args .code) (eight .if3 .taken), ← (asked .parts-fit .ensures), c .if4 .left)
+
+returns-5 : tie.Need-returns-5
+returns-5 c =
+    let four : tie.Else1 = search in
+    let start : tie.Start = search in
+    sym (start-other (start .args .code) (start .args .body .now) (start .args .n) (four .if1 .left) (c .if3 .left))
 
 pub start-at-spec : {M : Type 1} → statement M
-start-at-spec = tie.close (tie.spec add-controls add-controls-2 returns returns-2 returns-3)
+start-at-spec = tie.close (tie.spec add-controls add-controls-2 returns returns-2 (λ c κs. search needs) returns-3 returns-4 returns-5)

@@ -1,5 +1,5 @@
 -- Each arm is its code's taking. Assumes nothing.
-use Rattle.codes.proofs.Numbered.{code-1, code-2, code-3, code-4, code-5, code-6, code-7}
+use Rattle.codes.proofs.Numbered.{code-1, code-2, code-3, code-4, code-5, code-6, code-7, code-8}
 use borrow.Author.Needs.{needs}
 use Rattle.codes.proofs.dispatch.take_units.Statement.{statement}
 use Rattle.codes.proofs.dispatch.take_units.Tie as tie
@@ -42,10 +42,16 @@ returns-6 c =
 
 returns-7 : tie.Need-returns-7
 returns-7 c =
+    let arm : tie.At-match-keys7 = search in
+    let took : tie.After-take3 = search in
+    rw (code-8 _ (arm .match .keys7)) (took .take3 .ensures)
+
+returns-8 : tie.Need-returns-8
+returns-8 c =
     let arm : tie.At-match-rest = search in
     let took : tie.After-take-batches = search in
     let r = arm .match .rest in
-    rw (code-7 _ (r .0 .0 .0 .0 .0 .1) (r .0 .0 .0 .0 .1) (r .0 .0 .0 .1) (r .0 .0 .1) (r .0 .1) (r .1)) (took .take-batches .ensures)
+    rw (code-7 _ (r .0 .0 .0 .0 .0 .0 .1) (r .0 .0 .0 .0 .0 .1) (r .0 .0 .0 .0 .1) (r .0 .0 .0 .1) (r .0 .0 .1) (r .0 .1) (r .1)) (took .take-batches .ensures)
 
 pub take-units-spec : {M : Type 1} → statement M
 take-units-spec =
@@ -57,6 +63,7 @@ take-units-spec =
     (λ c κs. search needs)  -- take-stream-requires
     (λ c κs. search needs)  -- take-gamma-requires
     (λ c κs. search needs)  -- take-delta-requires
+    (λ c κs. search needs)  -- take-requires-3
     (λ c κs. search needs)  -- take-batches-requires
     (λ c. search needs)  -- same-length
     returns
@@ -71,4 +78,6 @@ take-units-spec =
     (λ c. search needs)  -- same-length-6
     returns-6
     (λ c. search needs)  -- same-length-7
-    returns-7)
+    returns-7
+    (λ c. search needs)  -- same-length-8
+    returns-8)

@@ -1,4 +1,4 @@
-use Rattle.codes.proofs.Numbered.{code-1, code-2, code-3, code-4, code-5, code-6, code-7}
+use Rattle.codes.proofs.Numbered.{code-1, code-2, code-3, code-4, code-5, code-6, code-7, code-8}
 use borrow.Author.Needs.{needs}
 use Rattle.codes.proofs.dispatch.unit_at.Statement.{statement}
 use Rattle.codes.proofs.dispatch.unit_at.Tie as tie
@@ -29,8 +29,12 @@ returns-6 c =
 
 returns-7 : tie.Need-returns-7
 returns-7 c =
+    let m = c .before .match in rw (code-8 _ (m .keys7)) (c .unit3 .ensures)
+
+returns-8 : tie.Need-returns-8
+returns-8 c =
     let r = c .before .match .rest in
-    rw (code-7 _ (r .0 .0 .0 .0 .0 .1) (r .0 .0 .0 .0 .1) (r .0 .0 .0 .1) (r .0 .0 .1) (r .0 .1) (r .1)) (c .unit-batches .ensures)
+    rw (code-7 _ (r .0 .0 .0 .0 .0 .0 .1) (r .0 .0 .0 .0 .0 .1) (r .0 .0 .0 .0 .1) (r .0 .0 .0 .1) (r .0 .0 .1) (r .0 .1) (r .1)) (c .unit-batches .ensures)
 
 pub unit-at-spec : {M : Type 1} → statement M
 unit-at-spec =
@@ -42,6 +46,7 @@ unit-at-spec =
     (λ c κs. search needs)  -- unit-stream-requires
     (λ c κs. search needs)  -- unit-gamma-requires
     (λ c κs. search needs)  -- unit-delta-requires
+    (λ c κs. search needs)  -- unit-requires-3
     (λ c κs. search needs)  -- unit-batches-requires
     returns
     returns-2
@@ -49,4 +54,5 @@ unit-at-spec =
     returns-4
     returns-5
     returns-6
-    returns-7)
+    returns-7
+    returns-8)

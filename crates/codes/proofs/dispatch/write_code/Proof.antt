@@ -1,4 +1,4 @@
-use Rattle.codes.proofs.Numbered.{code-1, code-2, code-3, code-4, code-5, code-6, code-7}
+use Rattle.codes.proofs.Numbered.{code-1, code-2, code-3, code-4, code-5, code-6, code-7, code-8}
 use borrow.Author.Needs.{needs}
 use Rattle.codes.proofs.dispatch.write_code.Statement.{statement}
 use Rattle.codes.proofs.dispatch.write_code.Tie as tie
@@ -29,8 +29,12 @@ returns-6 c =
 
 returns-7 : tie.Need-returns-7
 returns-7 c =
+    let m = c .before .before .before .before .match in rw (code-8 _ (m .keys7)) (c .before .before .write3 .ensures)
+
+returns-8 : tie.Need-returns-8
+returns-8 c =
     let r = c .before .before .before .before .match .rest in
-    rw (code-7 _ (r .0 .0 .0 .0 .0 .1) (r .0 .0 .0 .0 .1) (r .0 .0 .0 .1) (r .0 .0 .1) (r .0 .1) (r .1)) (c .before .before .write-batches .ensures)
+    rw (code-7 _ (r .0 .0 .0 .0 .0 .0 .1) (r .0 .0 .0 .0 .0 .1) (r .0 .0 .0 .0 .1) (r .0 .0 .0 .1) (r .0 .0 .1) (r .0 .1) (r .1)) (c .before .before .write-batches .ensures)
 
 pub write-code-spec : {M : Type 1} → statement M
 write-code-spec =
@@ -42,6 +46,7 @@ write-code-spec =
     (λ c κs. search needs)  -- write-stream-requires
     (λ c κs. search needs)  -- write-gamma-requires
     (λ c κs. search needs)  -- write-delta-requires
+    (λ c κs. search needs)  -- write-requires-3
     (λ c κs. search needs)  -- write-batches-requires
     (λ c. search needs)  -- same-length
     returns
@@ -56,4 +61,6 @@ write-code-spec =
     (λ c. search needs)  -- same-length-6
     returns-6
     (λ c. search needs)  -- same-length-7
-    returns-7)
+    returns-7
+    (λ c. search needs)  -- same-length-8
+    returns-8)

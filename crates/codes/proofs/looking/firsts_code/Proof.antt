@@ -6,15 +6,14 @@ use native.Mathlib.Omega.{arith}
 use Rattle.meaning.specs.Answer.{refused}
 use Rattle.meaning.specs.Codes.{codeOf, lookCode}
 use Rattle.codes.specs.Firsts.{Space}
-use Rattle.codes.proofs.Lookings.{Looking, looking-start, start-refuses, refuses, looking-on}
-use Rattle.codes.proofs.Lookings.{those, Laid, laid-none, laid-went, firsts-stop, firsts-all}
-use Rattle.codes.proofs.Stretches.{goes-on, goes-refused}
+use Rattle.codes.proofs.Lookings.{Reached, reached-start, start-refuses, gone, stops}
+use Rattle.codes.proofs.Lookings.{Laid, laid-none, laid-went, firsts-stop, firsts-all}
 use Rattle.codes.proofs.looking.firsts_code.Statement.{statement}
 use Rattle.codes.proofs.looking.firsts_code.Tie as tie
 
 abbrev Inv-loop : tie.InvT-loop
 Inv-loop code body n k work₀ to at₀ passed₀ work at passed =
-    (passed < k → Looking code body n passed at) × Laid (lookCode (codeOf code) body n) to work₀ work passed × (passed ≤ k) × Space body n k work₀ to
+    (passed < k → Reached code body n passed at) × Laid (lookCode (codeOf code) body n) to work₀ work passed × (passed ≤ k) × Space body n k work₀ to
 
 abbrev μ-loop : tie.MeasureT-loop
 μ-loop code body n k work₀ to at₀ passed₀ work at passed = k - passed
@@ -46,7 +45,7 @@ loop-holds c =
     let known : At tie.After-shared-slice-known = search in
     let start : At tie.Start = search in
     let a = start .args in (
-      λ h. looking-start (a .code) (a .body .now) (a .n) (started .start-at .ensures) (λ i. known .shared-slice-known .given i .fits) (start .pre .short)
+      λ h. reached-start (a .code) (a .body .now) (a .n) (started .start-at .ensures) (λ i. known .shared-slice-known .given i .fits) (start .pre .short)
           (told .started .given .1),
       laid-none,
       omega arith,
@@ -60,31 +59,26 @@ add-place c =
     let (l, laid, most, space) = turn .loop .inv in
     omega (arith, space .room, start .good)
 
-sub-stretch : tie.Need-sub-stretch Inv-loop μ-loop
-sub-stretch c =
-    let turn : At tie.At-loop = search in
-    let (l, laid, most, space) = turn .loop .inv in
-    omega (arith, space .inside)
-
-stretch-requires : tie.Need-stretch-requires Inv-loop μ-loop
-stretch-requires c κs =
+ahead-requires : tie.Need-ahead-requires Inv-loop μ-loop
+ahead-requires c κs =
     let turn : At tie.In-loop = search in
     let (looking, laid, most, space) = turn .before .loop .inv in
-    let l = looking (turn .loop-test .taken) in
-    (record { inside = omega (arith, laid .long, space .room); short = l .short }, omega (arith, space .inside, turn .loop-test .taken))
+    let l = looking (turn .loop-test .taken) in (
+      record { inside = omega (arith, laid .long, space .room); short = l .short },
+      omega (arith, turn .loop-test .taken),
+      omega (arith, space .inside, turn .loop-test .taken),
+      space .few,
+    )
 
 returns-3 : tie.Need-returns-3 Inv-loop μ-loop
 returns-3 c =
     let told : At tie.After-enum-told2 = search in
-    let went : At tie.After-stretch = search in
+    let went : At tie.After-ahead = search in
     let turn : At tie.In-loop = search in
     let (looking, laid, most, space) = turn .before .loop .inv in
     let l = looking (turn .loop-test .taken) in
-    let (stops, same) = goes-refused (went .stretch .ensures) (told .enum-told2 .given .1) in
-    rw same
-    (firsts-stop laid (turn .loop-test .taken)
-    (refuses l (went .stretch .ensures) (told .enum-told2 .given .1) _ (omega arith) (omega (arith, space .inside, turn .loop-test .taken))
-    ∙ ap (λ (e : ℕ). refused e) (sym (c .went-refusal .ensures))))
+    let (refusal, same) = stops l (omega (arith, space .inside, turn .loop-test .taken)) (went .ahead .ensures) (told .enum-told2 .given .1) in
+    rw same (firsts-stop laid (turn .loop-test .taken) (refusal ∙ ap (λ (e : ℕ). refused e) (sym (c .went-refusal .ensures))))
 
 add-passed : tie.Need-add-passed Inv-loop μ-loop
 add-passed c =
@@ -97,22 +91,24 @@ loop-less : tie.Need-loop-less Inv-loop μ-loop
 loop-less c =
     let least : At tie.After-lesser = search in
     let told : At tie.After-went = search in
-    let went : At tie.After-stretch = search in
+    let went : At tie.After-ahead = search in
     let turn : At tie.In-loop = search in
-    let g = goes-on (went .stretch .ensures) (told .went .given .1) in
+    let (looking, laid, most, space) = turn .before .loop .inv in
+    let l = looking (turn .loop-test .taken) in
+    let g = gone l (omega (arith, space .inside, turn .loop-test .taken)) (went .ahead .ensures) (told .went .given .1) in
     omega (arith, least .lesser .ensures, g .some, turn .loop-test .taken)
 
 loop-again : tie.Need-loop-again Inv-loop μ-loop
 loop-again c =
     let least : At tie.After-lesser = search in
     let told : At tie.After-went = search in
-    let went : At tie.After-stretch = search in
+    let went : At tie.After-ahead = search in
     let turn : At tie.In-loop = search in
     let (looking, laid, most, space) = turn .before .loop .inv in
     let l = looking (turn .loop-test .taken) in
-    let g = goes-on (went .stretch .ensures) (told .went .given .1) in (
-      λ h. let all : least .lesser .result ≡ told .went .given .0 .0 .count = omega (arith, least .lesser .ensures, h) in rw all (looking-on l g),
-      laid-went laid (space .room) most g (least .lesser .ensures) (those l g),
+    let g = gone l (omega (arith, space .inside, turn .loop-test .taken)) (went .ahead .ensures) (told .went .given .1) in (
+      λ h. let all : least .lesser .result ≡ told .went .given .0 .0 .count = omega (arith, least .lesser .ensures, h) in rw all (g .on),
+      laid-went laid (space .room) most g refl (least .lesser .ensures),
       omega (arith, least .lesser .ensures),
       space,
     )
@@ -143,8 +139,7 @@ firsts-code-spec =
     loop-holds
     add-place
     (λ c. search needs)  -- sub-room
-    sub-stretch
-    stretch-requires
+    ahead-requires
     (λ c. search needs)  -- enum-known-went
     (λ c. search needs)  -- enum-told-2
     (λ c κs. search needs)  -- went-refusal-requires

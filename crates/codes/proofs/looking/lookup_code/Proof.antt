@@ -6,7 +6,8 @@ use native.Mathlib.Omega.{arith}
 use lib.ListN.{length}
 use Rattle.meaning.specs.Answer.{given, refused}
 use Rattle.meaning.specs.Limits.{mostNumbers, unitPlaces}
-use Rattle.codes.proofs.Lookings.{Looking, looking-start, start-refuses, refuses, passes, looking-on, found}
+use Rattle.codes.proofs.Lookings.{Looking, looking-start, start-refuses, refuses, passes, looking-on, gone-units, found}
+use Rattle.codes.proofs.Numbered.{way-units, look-eight}
 use Rattle.codes.proofs.Stretches.{goes-on, passed-long}
 use Rattle.codes.proofs.looking.lookup_code.Statement.{statement}
 use Rattle.codes.proofs.looking.lookup_code.Tie as tie
@@ -24,6 +25,13 @@ At point = point Inv-loop μ-loop
 
 returns : tie.Need-returns Inv-loop μ-loop
 returns c =
+    let direct : At tie.Then1 = search in
+    let asked : At tie.After-is-direct = search in
+    let start : At tie.Start = search in
+    c .lookup .ensures ∙ sym (look-eight (start .args .code) (sym (asked .is-direct .ensures) ∙ direct .if1 .taken) (start .args .body .now) (start .args .n) _)
+
+returns-2 : tie.Need-returns-2 Inv-loop μ-loop
+returns-2 c =
     let told : At tie.After-enum-told = search in
     let started : At tie.After-start-at = search in
     let start : At tie.Start = search in
@@ -37,9 +45,11 @@ loop-holds c =
     let told : At tie.After-started = search in
     let started : At tie.After-start-at = search in
     let known : At tie.After-shared-slice-known = search in
+    let other : At tie.Else1 = search in
+    let asked : At tie.After-is-direct = search in
     let start : At tie.Start = search in
     let a = start .args in (
-      looking-start (a .code) (a .body .now) (a .n) (started .start-at .ensures) (λ i. known .shared-slice-known .given i .fits) (start .pre .short)
+      looking-start (a .code) (a .body .now) (a .n) (started .start-at .ensures) (way-units (a .code) (sym (asked .is-direct .ensures) ∙ other .if1 .left)) (λ i. known .shared-slice-known .given i .fits) (start .pre .short)
           (told .started .given .1),
       omega arith,
       start .pre .inside,
@@ -61,8 +71,8 @@ stretch-requires c κs =
     let (l, most, inside, few, long, one, eight) = turn .loop .inv in
     (record { inside = omega (arith, least .lesser .ensures, long); short = l .short }, omega arith)
 
-returns-2 : tie.Need-returns-2 Inv-loop μ-loop
-returns-2 c =
+returns-3 : tie.Need-returns-3 Inv-loop μ-loop
+returns-3 c =
     let told : At tie.After-enum-told2 = search in
     let went : At tie.After-stretch = search in
     let turn : At tie.At-loop = search in
@@ -83,17 +93,17 @@ array-read-number c =
     let turn : At tie.At-loop = search in
     let (l, most, inside, few, long, one, eight) = turn .loop .inv in
     let g = goes-on (went .stretch .ensures) (told .went .given .1) in
-    omega (arith, least .lesser .ensures, g .few, c .if1 .taken)
+    omega (arith, least .lesser .ensures, g .few, c .if2 .taken)
 
-returns-3 : tie.Need-returns-3 Inv-loop μ-loop
-returns-3 c =
+returns-4 : tie.Need-returns-4 Inv-loop μ-loop
+returns-4 c =
     let told : At tie.After-went = search in
     let went : At tie.After-stretch = search in
     let least : At tie.After-lesser = search in
     let turn : At tie.At-loop = search in
     let (l, most, inside, few, long, one, eight) = turn .loop .inv in
     let g = goes-on (went .stretch .ensures) (told .went .given .1) in
-    sym (found l g (omega (arith, least .lesser .ensures, long)) _ most (c .if1 .taken) (omega (arith, least .lesser .ensures, g .few, c .if1 .taken)))
+    sym (found (gone-units l (omega arith) g) (omega (arith, least .lesser .ensures, long)) _ most (c .if2 .taken) (omega (arith, least .lesser .ensures, g .few, c .if2 .taken)))
 
 add-passed : tie.Need-add-passed Inv-loop μ-loop
 add-passed c =
@@ -115,13 +125,13 @@ loop-less c =
 
 loop-again : tie.Need-loop-again Inv-loop μ-loop
 loop-again c =
-    let past : At tie.Else1 = search in
+    let past : At tie.Else2 = search in
     let told : At tie.After-went = search in
     let went : At tie.After-stretch = search in
     let turn : At tie.At-loop = search in
     let (l, most, inside, few, long, one, eight) = turn .loop .inv in
     let g = goes-on (went .stretch .ensures) (told .went .given .1) in
-    (looking-on l g, omega (arith, past .if1 .left), inside, few, passed-long g ∙ long, one, eight)
+    (looking-on l g, omega (arith, past .if2 .left), inside, few, passed-long g ∙ long, one, eight)
 
 pub lookup-code-spec : {M : Type 1} → statement M
 lookup-code-spec =
@@ -129,11 +139,14 @@ lookup-code-spec =
     (tie.spec
     Inv-loop
     μ-loop
+    (λ c κs. search needs)  -- is-direct-requires
+    (λ c κs. search needs)  -- lookup-requires
+    returns
     (λ c κs. search needs)  -- start-at-requires
     (λ c. search needs)  -- enum-known-started
     (λ c. search needs)  -- enum-told
     (λ c κs. search needs)  -- start-refusal-requires
-    returns
+    returns-2
     (λ c κs. search needs)  -- unit-most-requires
     loop-holds
     (λ c. search needs)  -- sub-here
@@ -145,10 +158,10 @@ lookup-code-spec =
     (λ c. search needs)  -- enum-known-went
     (λ c. search needs)  -- enum-told-2
     (λ c κs. search needs)  -- went-refusal-requires
-    returns-2
+    returns-3
     mul-number
     array-read-number
-    returns-3
+    returns-4
     add-passed
     loop-less
     loop-again)

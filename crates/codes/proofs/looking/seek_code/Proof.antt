@@ -7,10 +7,9 @@ use lib.ListN.{length}
 use Rattle.meaning.specs.Answer.{given, refused}
 use Rattle.meaning.specs.Codes.{codeOf, lookCode}
 use Rattle.meaning.specs.Limits.{mostNumbers}
-use Rattle.codes.proofs.Lookings.{looking-start, start-refuses, passes}
+use Rattle.codes.proofs.Lookings.{reached-start, start-refuses, gone, gone-long}
 use Rattle.codes.proofs.Seeks.{SeekingOn, on-start, on-refused, on-end, on-found, on-few, on-fault, on-within, on-next}
 use Rattle.stages.proofs.Seeks.{seek-none, seek-stops}
-use Rattle.codes.proofs.Stretches.{goes-on, passed-long}
 use Rattle.codes.proofs.looking.seek_code.Statement.{statement}
 use Rattle.codes.proofs.looking.seek_code.Tie as tie
 
@@ -50,7 +49,7 @@ loop-holds c =
     let known : At tie.After-shared-slice-known = search in
     let start : At tie.Start = search in
     let a = start .args in (
-      on-start (looking-start (a .code) (a .body .now) (a .runs) (started .start-at .ensures) (λ i. known .shared-slice-known .given i .fits)
+      on-start (reached-start (a .code) (a .body .now) (a .runs) (started .start-at .ensures) (λ i. known .shared-slice-known .given i .fits)
           (start .pre .0 .short)
           (told .started .given .1)),
       omega arith,
@@ -72,88 +71,88 @@ add-lesser c =
     let (o, within, inside, few, long, less) = turn .before .loop .inv in
     omega arith
 
-stretch-requires : tie.Need-stretch-requires Inv-loop μ-loop
-stretch-requires c κs =
+ahead-requires : tie.Need-ahead-requires Inv-loop μ-loop
+ahead-requires c κs =
     let least : At tie.After-lesser = search in
     let turn : At tie.In-loop = search in
     let (o, within, inside, few, long, less) = turn .before .loop .inv in
-    (record { inside = omega (arith, least .lesser .ensures, long); short = o .looking .short }, omega (arith, turn .loop-test .taken))
+    (record { inside = omega (arith, least .lesser .ensures, long); short = o .looking .short }, omega (arith, least .lesser .ensures), turn .loop-test .taken, omega arith)
 
 returns-3 : tie.Need-returns-3 Inv-loop μ-loop
 returns-3 c =
     let told : At tie.After-enum-told2 = search in
-    let went : At tie.After-stretch = search in
+    let went : At tie.After-ahead = search in
     let turn : At tie.In-loop = search in
     let (o, within, inside, few, long, less) = turn .before .loop .inv in
-    ap (λ (e : ℕ). refused e) (c .went-refusal .ensures) ∙ sym (on-refused o (turn .loop-test .taken) (went .stretch .ensures) (told .enum-told2 .given .1))
+    ap (λ (e : ℕ). refused e) (c .went-refusal .ensures) ∙ sym (on-refused o (turn .loop-test .taken) (went .ahead .ensures) (told .enum-told2 .given .1))
 
 seek-in-requires : tie.Need-seek-in-requires Inv-loop μ-loop
 seek-in-requires c κs =
     let told : At tie.After-went = search in
-    let went : At tie.After-stretch = search in
+    let went : At tie.After-ahead = search in
     let least : At tie.After-lesser = search in
     let turn : At tie.In-loop = search in
     let (o, within, inside, few, long, less) = turn .before .loop .inv in
-    let g = goes-on (went .stretch .ensures) (told .went .given .1) in
-    (omega (arith, g .few, least .lesser .ensures, passed-long g, long), within)
+    let g = gone (o .looking) (turn .loop-test .taken) (went .ahead .ensures) (told .went .given .1) in
+    (omega (arith, g .few, least .lesser .ensures, gone-long g, long), within)
 
 add-run : tie.Need-add-run Inv-loop μ-loop
 add-run c =
     let at : At tie.After-j = search in
     let sought : At tie.After-seek-in = search in
     let told : At tie.After-went = search in
-    let went : At tie.After-stretch = search in
+    let went : At tie.After-ahead = search in
     let least : At tie.After-lesser = search in
     let turn : At tie.In-loop = search in
     let (o, within, inside, few, long, less) = turn .before .loop .inv in
-    let g = goes-on (went .stretch .ensures) (told .went .given .1) in
+    let g = gone (o .looking) (turn .loop-test .taken) (went .ahead .ensures) (told .went .given .1) in
     let j = on-few o g (omega (arith, least .lesser .ensures, long)) (omega (arith, g .few, least .lesser .ensures)) (sought .seek-in .ensures)
     (at .j .given .1) in
-    omega (arith, passes (o .looking) g (o .most), few, less, j)
+    omega (arith, g .inside, few, less, j)
 
 returns-4 : tie.Need-returns-4 Inv-loop μ-loop
 returns-4 c =
     let at : At tie.After-j = search in
     let sought : At tie.After-seek-in = search in
     let told : At tie.After-went = search in
-    let went : At tie.After-stretch = search in
+    let went : At tie.After-ahead = search in
     let least : At tie.After-lesser = search in
     let turn : At tie.In-loop = search in
     let (o, within, inside, few, long, less) = turn .before .loop .inv in
-    let g = goes-on (went .stretch .ensures) (told .went .given .1) in
+    let g = gone (o .looking) (turn .loop-test .taken) (went .ahead .ensures) (told .went .given .1) in
     sym (on-found o g (omega (arith, least .lesser .ensures, long)) (omega (arith, g .few, least .lesser .ensures)) (sought .seek-in .ensures)
     (at .j .given .1))
 
 add-passed : tie.Need-add-passed Inv-loop μ-loop
 add-passed c =
     let told : At tie.After-went = search in
-    let went : At tie.After-stretch = search in
+    let went : At tie.After-ahead = search in
     let least : At tie.After-lesser = search in
     let turn : At tie.In-loop = search in
     let (o, within, inside, few, long, less) = turn .before .loop .inv in
-    let g = goes-on (went .stretch .ensures) (told .went .given .1) in
-    omega (arith, passes (o .looking) g (o .most), few, less)
+    let g = gone (o .looking) (turn .loop-test .taken) (went .ahead .ensures) (told .went .given .1) in
+    omega (arith, g .inside, few, less)
 
 loop-less : tie.Need-loop-less Inv-loop μ-loop
 loop-less c =
     let told : At tie.After-went = search in
-    let went : At tie.After-stretch = search in
+    let went : At tie.After-ahead = search in
     let least : At tie.After-lesser = search in
     let turn : At tie.In-loop = search in
     let (o, within, inside, few, long, less) = turn .before .loop .inv in
-    let g = goes-on (went .stretch .ensures) (told .went .given .1) in
-    omega (arith, passes (o .looking) g (o .most), g .some)
+    let g = gone (o .looking) (turn .loop-test .taken) (went .ahead .ensures) (told .went .given .1) in
+    omega (arith, g .inside, g .some)
 
 loop-again : tie.Need-loop-again Inv-loop μ-loop
 loop-again c =
     let at : At tie.After-end = search in
     let sought : At tie.After-seek-in = search in
     let told : At tie.After-went = search in
-    let went : At tie.After-stretch = search in
+    let went : At tie.After-ahead = search in
     let least : At tie.After-lesser = search in
     let turn : At tie.In-loop = search in
     let (o, within, inside, few, long, less) = turn .before .loop .inv in
-    let g = goes-on (went .stretch .ensures) (told .went .given .1) in
+    let g = gone (o .looking) (turn .loop-test .taken) (went .ahead .ensures) (told .went .given .1) in
     let d = on-within o g (omega (arith, least .lesser .ensures, long)) (omega (arith, g .few, least .lesser .ensures)) (sought .seek-in .ensures)
     (at .end .given .1) in (
       on-next o g (omega (arith, least .lesser .ensures, long)) (omega (arith, g .few, least .lesser .ensures)) (sought .seek-in .ensures)
@@ -161,7 +160,7 @@ loop-again c =
       d .0,
       inside,
       few,
-      passed-long g ∙ long,
+      gone-long g ∙ long,
       less,
     )
 
@@ -170,11 +169,11 @@ returns-5 c =
     let at : At tie.After-e = search in
     let sought : At tie.After-seek-in = search in
     let told : At tie.After-went = search in
-    let went : At tie.After-stretch = search in
+    let went : At tie.After-ahead = search in
     let least : At tie.After-lesser = search in
     let turn : At tie.In-loop = search in
     let (o, within, inside, few, long, less) = turn .before .loop .inv in
-    let g = goes-on (went .stretch .ensures) (told .went .given .1) in
+    let g = gone (o .looking) (turn .loop-test .taken) (went .ahead .ensures) (told .went .given .1) in
     sym (on-fault o g (omega (arith, least .lesser .ensures, long)) (omega (arith, g .few, least .lesser .ensures)) (sought .seek-in .ensures)
     (at .e .given .1))
 
@@ -197,9 +196,8 @@ seek-code-spec =
     sub-lesser
     add-lesser
     (λ c κs. search needs)  -- lesser-requires
-    (λ c. search needs)  -- sub-stretch
-    (λ c. search needs)  -- slice-aggregate-stretch
-    stretch-requires
+    (λ c. search needs)  -- slice-aggregate-ahead
+    ahead-requires
     (λ c. search needs)  -- enum-known-went
     (λ c. search needs)  -- enum-told-2
     (λ c κs. search needs)  -- went-refusal-requires

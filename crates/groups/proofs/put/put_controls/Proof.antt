@@ -2,9 +2,10 @@
 use Prim.Native.Nat.{_+_, _-_}
 use native.Mathlib.Omega.{arith}
 use Rattle.meaning.specs.Groups.{fours}
+use Rattle.words.proofs.Puts.{PutSo, put-start, put-turn, put-end, put-long, put-one}
 use Rattle.groups.specs.Parts.{controlsOf}
 use Rattle.groups.proofs.Pieces.{controls-none}
-use Rattle.groups.proofs.Puts.{PutSo, put-start, put-turn, put-end, put-long, put-one, controls-turn, controls-bound}
+use Rattle.groups.proofs.Puts.{controls-turn, controls-bound}
 use borrow.Author.Needs.{needs}
 use Rattle.groups.proofs.put.put_controls.Statement.{statement}
 use Rattle.groups.proofs.put.put_controls.Tie as tie

@@ -3,7 +3,8 @@ use Prim.Native.Nat.{_+_, _-_}
 use native.Mathlib.Omega.{arith}
 use lib.ListN.{getD}
 use Rattle.words.proofs.DataBytes.{held}
-use Rattle.groups.proofs.Puts.{FieldsSo, fields-start, fields-turn, fields-end, field-few, put-few, put-long, data-bound}
+use Rattle.words.proofs.Puts.{put-few, put-long, data-bound}
+use Rattle.groups.proofs.Puts.{FieldsSo, fields-start, fields-turn, fields-end, field-few}
 use borrow.Author.Needs.{needs}
 use Rattle.groups.proofs.put.put_fielded.Statement.{statement}
 use Rattle.groups.proofs.put.put_fielded.Tie as tie

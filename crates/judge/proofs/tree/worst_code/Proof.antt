@@ -32,9 +32,14 @@ unfolding codeOf
 returns-6 c = sym (ap (λ (k : ℕ). codeOf k .worst (c .before .args .n)) (c .match .keys6))
 
 returns-7 : tie.Need-returns-7
-returns-7 c =
+unfolding codeOf
+returns-7 c = c .worst-direct .ensures ∙ sym (ap (λ (k : ℕ). codeOf k .worst (c .before .before .args .n)) (c .before .match .keys7))
+
+returns-8 : tie.Need-returns-8
+returns-8 c =
     let r = c .before .match .rest in
-    c .worst-groups3 .ensures ∙ worst-else _ _ (r .0 .0 .0 .0 .0 .1) (r .0 .0 .0 .0 .1) (r .0 .0 .0 .1) (r .0 .0 .1) (r .0 .1) (r .1)
+    c .worst-groups3 .ensures
+    ∙ worst-else _ _ (r .0 .0 .0 .0 .0 .0 .1) (r .0 .0 .0 .0 .0 .1) (r .0 .0 .0 .0 .1) (r .0 .0 .0 .1) (r .0 .0 .1) (r .0 .1) (r .1)
 
 pub worst-code-spec : {M : Type 1} → statement M
 worst-code-spec =
@@ -49,6 +54,7 @@ worst-code-spec =
     (λ c. search needs)  -- add-result-2
     (λ c. search needs)  -- mul-result-4
     (λ c. search needs)  -- add-result-3
+    (λ c κs. search needs)  -- worst-direct-requires
     (λ c κs. search needs)  -- worst-groups-requires-3
     returns
     returns-2
@@ -56,4 +62,5 @@ worst-code-spec =
     returns-4
     returns-5
     returns-6
-    returns-7)
+    returns-7
+    returns-8)
