@@ -2,7 +2,6 @@
 pub mod Numbered
 pub mod Stretches
 pub mod Lookings
-pub mod Placings
 pub mod Totals
 pub mod Readings
 pub mod Seeks

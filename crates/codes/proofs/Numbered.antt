@@ -7,7 +7,8 @@ use native.Mathlib.Omega.{arith}
 use lib.Dec.{eqb}
 use borrow.Author.Tests.{ne-eqb, eq-eqb, eqb-true}
 use Rattle.meaning.specs.Answer.{given}
-use Rattle.meaning.specs.Codes.{codeOf, codeVByte, codeGroups, codeG8IU, codeStream, codeGamma, codeDelta, codeBatches, codeDirect, Way, byUnits, directly, lookCode}
+use Rattle.meaning.specs.Codes.{codeOf, codeVByte, codeGroups, codeG8IU, codeStream, codeGamma, codeDelta, codeBatches, codeDirect}
+use Rattle.meaning.specs.Codes.{Way, byUnits, directly, lookCode}
 use Rattle.meaning.specs.Direct.{lookDirect}
 use Rattle.meaning.specs.Places.{Spare}
 use Rattle.meaning.specs.Positions.{atByte}
@@ -18,7 +19,7 @@ use Rattle.vbyte.proofs.Laws.{lawful as vbyte}
 use Rattle.groups.proofs.Laws.{lawful-groups, lawful-stream, lawful-batches}
 use Rattle.g8iu.proofs.Laws.{lawful as g8iu}
 use Rattle.elias.proofs.Laws.{lawful-gamma, lawful-delta}
-use Rattle.codes.specs.Aheads.{direct}
+use Rattle.codes.specs.Started.{isDirect}
 use Rattle.direct.proofs.Laws.{lawful as direct-list}
 
 module _ (c : ℕ) where
@@ -73,26 +74,23 @@ module _ (c : ℕ) where
 
 -- ---- how a number is looked up
 module _ (c : ℕ) where
-  pub way-eight : direct (codeOf c .way) ≡ eqb c 8
+  pub way-eight : isDirect (codeOf c .way) ≡ eqb c 8
   way-eight =
       by-test (eqb c 8) (λ t. rw (t, code-8 c (eqb-true c 8 t))) (λ f. rw (f, way-other c (λ e. not-both (eq-eqb c 8 e) f)))
     where
       not-both : {b : Bool} → b ≡ true → b ≡ false → ⊥
       not-both t f = let z : _≡_ {A = ℕ} 0 1 = ap (λ b. cond b 0 1) (sym t ∙ f) in omega arith
 
-  pub way-units : direct (codeOf c .way) ≡ false → codeOf c .way ≡ byUnits
+  pub way-units : isDirect (codeOf c .way) ≡ false → codeOf c .way ≡ byUnits
   way-units h = by-way (codeOf c .way) h
     where
-      by-way : (w : Way) → direct w ≡ false → w ≡ byUnits
+      by-way : (w : Way) → isDirect w ≡ false → w ≡ byUnits
       by-way byUnits e = refl
       by-way (directly look) e = let z : _≡_ {A = ℕ} 0 1 = ap (λ b. cond b 0 1) e in absurd (omega arith)
 
-  pub look-eight : direct (codeOf c .way) ≡ true → (body : List ℕ) (n place : ℕ) → lookCode (codeOf c) body n place ≡ lookDirect body place
+  pub look-eight : isDirect (codeOf c .way) ≡ true → (body : List ℕ) (n : ℕ) → lookCode (codeOf c) body n ≡ lookDirect body
   unfolding lookCode
-  look-eight h body n place = rw (code-8 c (eqb-true c 8 (sym way-eight ∙ h)))
-
-  pub ahead-direct : direct (codeOf c .way) ≡ true → codeOf c .way ≡ directly lookDirect
-  ahead-direct h = rw (code-8 c (eqb-true c 8 (sym way-eight ∙ h)))
+  look-eight h body n = rw (code-8 c (eqb-true c 8 (sym way-eight ∙ h)))
 
 -- each code is lawful
 pub laws : (c : ℕ) → Lawful (codeOf c)

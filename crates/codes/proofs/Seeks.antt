@@ -12,48 +12,47 @@ use Rattle.meaning.specs.Stages.{seek}
 use Rattle.meaning.specs.declared.Place.{Place}
 use Rattle.meaning.specs.declared.Position.{Position}
 use Rattle.meaning.specs.declared.Taken.{Taken}
-use Rattle.codes.specs.Aheads.{Ahead}
-use Rattle.codes.specs.Goes.{wentRefusal}
+use Rattle.codes.specs.Goes.{Passed, Goes, wentRefusal}
 use Rattle.stages.specs.Seeks.{soughtFrom, Seeks}
 use Rattle.stages.specs.declared.Sought.{Sought}
 use Rattle.codes.specs.declared.Went.{Went}
 use Rattle.codes.specs.declared.Went.the-variants as went
 use Rattle.stages.proofs.Seeks.{seek-none, seek-stops}
-use Rattle.codes.proofs.Lookings.{Reached, Gone, stops, front}
+use Rattle.codes.proofs.Lookings.{Looking, refuses, passes, looking-on, front}
 use Rattle.stages.specs.declared.Sought.the-variants as sought
 
 -- ---- by stretches of a code's numbers: the first `passed` of so many runs have been passed, which end after `done` numbers of n
 pub record SeekingOn (code : ℕ) (body : List ℕ) (runs n place passed : ℕ) (p : Position) (done : ℕ) : Type 0 where
-  pub looking : Reached code body runs passed p
+  pub looking : Looking code body runs passed p
   pub most : passed ≤ runs
   pub near : done ≤ place
   pub so : seek (lookCode (codeOf code) body runs) n place runs 0 0 ≡ seek (lookCode (codeOf code) body runs) n place (runs - passed) passed done
 
-pub on-start : {code : ℕ} {body : List ℕ} {runs n place : ℕ} {p : Position} → Reached code body runs 0 p → SeekingOn code body runs n place 0 p 0
+pub on-start : {code : ℕ} {body : List ℕ} {runs n place : ℕ} {p : Position} → Looking code body runs 0 p → SeekingOn code body runs n place 0 p 0
 on-start {runs = runs} l = record { looking = l; most = omega arith; near = omega arith; so = rw (sub-zero runs) }
 
 module _ {code : ℕ} {body : List ℕ} {runs n place passed : ℕ} {p : Position} {done : ℕ} (o : SeekingOn code body runs n place passed p done) where
   -- the next length is refused
-  pub on-refused : passed < runs → {room from : ℕ} {w w′ : List ℕ} {r : Went} → Ahead (codeOf code) body runs passed p room from w w′ r → {e : ℕ}
+  pub on-refused : passed < runs → {room from : ℕ} {w w′ : List ℕ} {r : Went} → Goes (codeOf code) body (runs - passed) p room from w w′ r → {e : ℕ}
       → r ≡ went.Refused e
       → seek (lookCode (codeOf code) body runs) n place runs 0 0 ≡ refused (wentRefusal r)
   on-refused h g q = o .so ∙ seek-stops (lookCode (codeOf code) body runs) n place (runs - passed) passed done (omega arith) _
-      (stops (o .looking) h g q .0)
+      (refuses (o .looking) g q passed (omega arith) h)
 
   -- no run is left
   pub on-end : runs ≤ passed → seek (lookCode (codeOf code) body runs) n place runs 0 0 ≡ refused fault
   on-end h =
       o .so ∙ seek-none (lookCode (codeOf code) body runs) n place (runs - passed) passed done (omega arith)
 
-  module _ {room : ℕ} {w w′ : List ℕ} {t : Taken} (g : Gone code body runs passed room 0 w w′ t) (fits : room ≤ length w)
+  module _ {room : ℕ} {w w′ : List ℕ} {t : Taken} (g : Passed (codeOf code) body (runs - passed) p room 0 w w′ t) (fits : room ≤ length w)
       (all : t .count ≤ room)
       {r : Sought} (s : Seeks w′ (t .count) n place done r) where
     on-sought : seek (lookCode (codeOf code) body runs) n place runs 0 0 ≡ soughtFrom (lookCode (codeOf code) body runs) n place (runs - passed) passed
         (t .count) r
     on-sought =
         o .so
-        ∙ s .told (lookCode (codeOf code) body runs) (runs - passed) passed (λ i h. front g fits i h (omega arith))
-        (omega (arith, g .inside))
+        ∙ s .told (lookCode (codeOf code) body runs) (runs - passed) passed (λ i h. front (o .looking) g fits i h (omega arith))
+        (omega (arith, passes (o .looking) g (o .most)))
 
     pub on-found : {j : Place} → r ≡ sought.At j → seek (lookCode (codeOf code) body runs) n place runs 0 0 ≡ given (passed + j .number)
     on-found e = on-sought ∙ ap (soughtFrom (lookCode (codeOf code) body runs) n place (runs - passed) passed (t .count)) e
@@ -71,8 +70,8 @@ module _ {code : ℕ} {body : List ℕ} {runs n place passed : ℕ} {p : Positio
     on-next {d} e =
         let m : runs - passed - t .count ≡ runs - (passed + t .count) = omega arith in
         record {
-          looking = g .on;
-          most = g .inside;
+          looking = looking-on (o .looking) g;
+          most = passes (o .looking) g (o .most);
           near = on-within e .2 (o .near);
           so =
               on-sought ∙ ap (soughtFrom (lookCode (codeOf code) body runs) n place (runs - passed) passed (t .count)) e

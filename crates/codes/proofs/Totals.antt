@@ -4,6 +4,7 @@ use mathlib.Core.Path.{_≡_, refl, sym, ap, _∙_}
 use mathlib.Core.List.{List, [], _∷_}
 use mathlib.Core.Logic.{_⊎_, inl, inr}
 use native.Mathlib.Nat.{add-assoc, add-zero, eq-or-lt-of-le, le-of-suc-le-suc}
+use native.Mathlib.Numerals.{add-one}
 use native.Mathlib.Omega.{arith}
 use lib.Seq.{length-take-le, getD-take}
 use lib.ListN.{length, getD, take}
@@ -11,8 +12,11 @@ use Rattle.meaning.specs.Answer.{Answer, given, refused, bind}
 use Rattle.meaning.specs.Lists.{sum}
 use Rattle.meaning.specs.Stages.{total}
 use Rattle.meaning.specs.Codes.{codeOf, lookCode}
+use Rattle.meaning.specs.declared.Position.{Position}
 use Rattle.meaning.specs.declared.Taken.{Taken}
-use Rattle.codes.proofs.Lookings.{Gone, gone-long, front}
+use Rattle.codes.specs.Goes.{Passed}
+use Rattle.codes.proofs.Lookings.{Looking, front}
+use Rattle.codes.proofs.Stretches.{passed-long}
 
 module _ (at : ℕ → Answer ℕ) where
   -- the first refusal is the sum's
@@ -38,6 +42,11 @@ module _ (at : ℕ → Answer ℕ) where
       ∙ total-more xs (suc i) (s + x) next (λ j l. let e : suc i + j ≡ i + suc j = omega arith in ap at e ∙ h (suc j) (omega arith))
       ∙ ap (λ (y : ℕ). given y) (add-assoc s x (sum xs))
 
+  -- one number more
+  pub total-one : {i s x y : ℕ} → total at i ≡ given s → at i ≡ given x → y ≡ x → total at (i + 1) ≡ given (s + y)
+  unfolding total
+  total-one {i} t e same = rw (add-one i, t, e, same)
+
   pub total-none : total at 0 ≡ given 0
   unfolding total
   total-none = refl
@@ -50,16 +59,18 @@ module _ (at : ℕ → Answer ℕ) where
       ap (λ (j : ℕ). total at (i + j)) (sym n)
       ∙ total-more (take k xs) i s t (λ j l. f j (omega arith) ∙ ap (λ (x : ℕ). given x) (sym (getD-take k xs j 0 (omega arith))))
 
--- what comes next adds its first k numbers
-module _ {code : ℕ} {body : List ℕ} {n i room : ℕ} {w w′ : List ℕ} {r : Taken} (g : Gone code body n i room 0 w w′ r) (fits : room ≤ length w)
-    {s : ℕ} (t : total (lookCode (codeOf code) body n) i ≡ given s) where
-  pub total-went : (k : ℕ) → k ≤ r .count → k ≤ room → total (lookCode (codeOf code) body n) (i + k) ≡ given (s + sum (take k w′))
-  total-went k h b =
-      total-part (lookCode (codeOf code) body n) w′ i s k (omega (arith, gone-long g)) t (λ j c. front g fits j (omega arith) (omega arith))
+-- a stretch adds its first k numbers
+pub total-went : {code : ℕ} {body : List ℕ} {n i : ℕ} {p : Position} → (l : Looking code body n i p) → {room : ℕ} {w w′ : List ℕ} {r : Taken}
+    → (g : Passed (codeOf code) body (n - i) p room 0 w w′ r) → room ≤ length w → {s : ℕ} → total (lookCode (codeOf code) body n) i ≡ given s
+    → (k : ℕ) → k ≤ r .count → k ≤ room → total (lookCode (codeOf code) body n) (i + k) ≡ given (s + sum (take k w′))
+total-went {code} {body} {n} {i} l {w′ = w′} g fits {s} t k h b =
+    total-part (lookCode (codeOf code) body n) w′ i s k (omega (arith, passed-long g)) t (λ j c. front l g fits j (omega arith) (omega arith))
 
-  -- and so the sum through a place among them is found
-  pub total-found : (place : ℕ) → i ≤ place → place - i < r .count → place - i < room
-      → given (s + sum (take (place - i + 1) w′)) ≡ total (lookCode (codeOf code) body n) (place + 1)
-  total-found place h b k =
-      let e : i + (place - i + 1) ≡ place + 1 = omega arith in
-      sym (total-went (place - i + 1) (omega arith) (omega arith)) ∙ ap (total (lookCode (codeOf code) body n)) e
+-- and so the sum through a place among them is found
+pub total-found : {code : ℕ} {body : List ℕ} {n i : ℕ} {p : Position} → (l : Looking code body n i p) → {room : ℕ} {w w′ : List ℕ} {r : Taken}
+    → (g : Passed (codeOf code) body (n - i) p room 0 w w′ r) → room ≤ length w → {s : ℕ} → total (lookCode (codeOf code) body n) i ≡ given s
+    → (place : ℕ) → i ≤ place → place - i < r .count → place - i < room
+    → given (s + sum (take (place - i + 1) w′)) ≡ total (lookCode (codeOf code) body n) (place + 1)
+total-found {code} {body} {n} {i} l g fits t place h b k =
+    let e : i + (place - i + 1) ≡ place + 1 = omega arith in
+    sym (total-went l g fits t (place - i + 1) (omega arith) (omega arith)) ∙ ap (total (lookCode (codeOf code) body n)) e

@@ -1,4 +1,3 @@
 pub mod Started
 pub mod Goes
-pub mod Aheads
 pub mod Firsts

@@ -1,6 +1,8 @@
--- What the answers of this crate say.
+-- What the answers of this crate say, and the test of a code's way.
 use Prim.Native.Nat.{ℕ}
+use mathlib.Core.Bool.{Bool, true, false}
 use Rattle.meaning.specs.Answer.{Answer, given, refused}
+use Rattle.meaning.specs.Codes.{Way, byUnits, directly}
 use Rattle.meaning.specs.declared.Position.{Position}
 use Rattle.codes.specs.declared.Started.{Started}
 use Rattle.codes.specs.declared.Started.the-variants as started
@@ -24,3 +26,8 @@ totalSays (total.Refused e) = refused e
 abbrev pub runSays : Run → Answer ℕ
 runSays (run.At j) = given (j .number)
 runSays (run.Refused e) = refused e
+
+-- whether a code is looked up directly
+abbrev pub isDirect : Way → Bool
+isDirect byUnits = false
+isDirect (directly look) = true

@@ -13,8 +13,7 @@ ghost use lib.ListN.{length, take};
 ghost use Rattle.meaning.specs.Codes.{codeOf};
 ghost use Rattle.meaning.specs.Limits.{mostBytes, unitPlaces};
 ghost use Rattle.meaning.specs.Places.{part, Source, Target, Wrote, UnitIs, Took, Spare};
-ghost use Rattle.codes.specs.Aheads.{direct};
-ghost use Rattle.codes.specs.Started.{startedSays};
+ghost use Rattle.codes.specs.Started.{startedSays, isDirect};
 
 // Writes n numbers that stand in a slice from a place on, to an output from an offset on. Answers where their bytes end.
 pub fn write_code(
@@ -145,7 +144,7 @@ pub fn done_at(code: u8, body: &[u8], at: Position) -> bool
 
 // Whether a number is looked up directly, and not unit by unit.
 pub fn is_direct(code: u8) -> bool
-    ensures { λ r. ⌜ r ≡ direct (codeOf code .way) ⌝ }
+    ensures { λ r. ⌜ r ≡ isDirect (codeOf code .way) ⌝ }
 {
     code == 8
 }

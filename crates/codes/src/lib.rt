@@ -1,6 +1,6 @@
 // The codes behind one name for each thing that is done with a code: the one place that lists them. Each walk over units stands here once, for every
 // code: strict reading, and what lookups ask.
-pub mod ahead;
+pub mod directly;
 pub mod dispatch;
 pub mod looking;
 pub mod reading;

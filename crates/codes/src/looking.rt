@@ -5,7 +5,9 @@ use crate::Run;
 use crate::Started;
 use crate::Total;
 use crate::Went;
-use crate::ahead::ahead;
+use crate::directly::firsts_direct;
+use crate::directly::seek_direct;
+use crate::directly::total_direct;
 use crate::dispatch::is_direct;
 use crate::dispatch::start_at;
 use crate::dispatch::unit_most;
@@ -73,6 +75,9 @@ pub fn total_code(code: u8, body: &[u8], n: usize, place: Place) -> Total
     requires { ⌜ Looked (now body) n (place .number) ⌝ }
     ensures { λ r. ⌜ totalSays r ≡ total (lookCode (codeOf code) (now (body .entry)) n) (place .number + 1) ⌝ }
 {
+    if is_direct(code) {
+        return total_direct(body, n, place);
+    }
     let goal = place.number;
     let started = start_at(code, body, n);
     let Started::At(first) = started else {
@@ -87,7 +92,7 @@ pub fn total_code(code: u8, body: &[u8], n: usize, place: Place) -> Total
     loop {
         let here = goal - passed;
         let room = lesser(192, here + most);
-        let went = ahead(code, body, n, passed, at, &mut numbers, start, room);
+        let went = stretch(code, body, n - passed, at, &mut numbers, start, room);
         let Went::On(taken) = went else {
             return Total::Refused(went_refusal(went));
         };
@@ -113,6 +118,9 @@ pub fn firsts_code(
     requires { ⌜ Space (now body) n k (now work) (from .number) ⌝ }
     ensures { λ r. ⌜ Firsts (lookCode (codeOf code) (now (body .entry)) n) k (from .number) (now (work .entry)) (now (work .exit)) r ⌝ }
 {
+    if is_direct(code) {
+        return firsts_direct(body, n, k, work, from);
+    }
     let to = from.number;
     if k == 0 {
         return First {
@@ -132,8 +140,15 @@ pub fn firsts_code(
     while passed < k {
         let place = to + passed;
         let room = k - passed;
-        let next = Place { number: place };
-        let went = ahead(code, body, n, passed, at, work, next, room);
+        let went = stretch(
+            code,
+            body,
+            n - passed,
+            at,
+            work,
+            Place { number: place },
+            room,
+        );
         let Went::On(taken) = went else {
             return First {
                 count: passed,
@@ -154,6 +169,9 @@ pub fn seek_code(code: u8, body: &[u8], runs: usize, n: usize, place: Place) -> 
     requires { ⌜ (Looked (now body) n (place .number)) × (runs ≤ n) ⌝ }
     ensures { λ r. ⌜ runSays r ≡ seek (lookCode (codeOf code) (now (body .entry)) runs) n (place .number) runs 0 0 ⌝ }
 {
+    if is_direct(code) {
+        return seek_direct(body, runs, n, place);
+    }
     if runs == 0 {
         return Run::Refused(FAULT);
     }
@@ -170,7 +188,7 @@ pub fn seek_code(code: u8, body: &[u8], runs: usize, n: usize, place: Place) -> 
     while passed < runs {
         // Each run holds a number at least, so no more lengths are needed than places are left; a unit's are.
         let room = lesser(32, goal - done.number + 16);
-        let went = ahead(code, body, runs, passed, at, &mut lengths, start, room);
+        let went = stretch(code, body, runs - passed, at, &mut lengths, start, room);
         let Went::On(taken) = went else {
             return Run::Refused(went_refusal(went));
         };

@@ -63,17 +63,11 @@ most xs =
     let sums : d / 512 ≤ n / 128 = omega arith in
     omega (arith, parts-length d (joined lastBits xs) (dataBytes xs))
 
--- a test that refuses one answer refuses the other
-same-refusal : {A B : Type 0} (t : Bool) (a : A) (m : Answer B) (e : ℕ) → need t fault (given a) ≡ refused e → need t fault m ≡ refused e
-same-refusal true a m e q = absurd (not-given e a (sym q))
-same-refusal false a m e q = let same : fault ≡ e = cc in ap (λ (k : ℕ). refused k) same
-
 direct : Direct codeDirect lookDirect
 unfolding lookDirect
 direct =
     record {
       agrees = λ body n xs b e place inside. look-holds body xs (reads body n xs b e .holds) place inside;
-      starts = λ body n e place q. same-refusal (partsFit body) (atBit 0) _ e q;
       faulty = look-faulty;
     }
 

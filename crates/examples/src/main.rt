@@ -1,4 +1,5 @@
-// The examples of document 01 and of requests P1 and P4 that are run, and the errors seen in earlier code, each a line with the refusal's number and the numbers read.
+// The examples of document 01 and of requests P1 and P4 that are run, and the errors seen in earlier code, each a line with the refusal's number and the
+// numbers read.
 use libc::STDOUT_FILENO;
 use meaning::Found;
 use meaning::Judged;

@@ -1,4 +1,4 @@
--- The other marked examples, the decisions of docs/DECISIONS.md (d1 to d13; p1, p3 for requests P1, P3) and the order of refusals, computed.
+-- The other marked examples, the decisions of docs/DECISIONS.md (d1 to d13; p1, p3, p4 for requests P1, P3, P4) and the order of refusals, computed.
 -- Assumes nothing.
 use Prim.Native.Nat.{ℕ}
 use mathlib.Core.Path.{_≡_, refl}
@@ -6,7 +6,8 @@ use mathlib.Core.List.{List, [], _∷_, _++_}
 use lib.ListN.{replicate}
 use Rattle.meaning.specs.Answer.{given, refused, passed, blamed}
 use Rattle.meaning.specs.Bytes.{word}
-use Rattle.meaning.specs.Plan.{code, planOf, judge, worstSize}
+use Rattle.meaning.specs.Plan.{code, reference, differences, runs, planOf, judge, worstSize}
+use Rattle.meaning.specs.Rank.{rank, select}
 use Rattle.meaning.specs.Stages.{write, read, look}
 use Rattle.meaning.specs.Operations.{writeApart, check, readSheet, lookSheet, fetch, call, boardVerdict, countBoard, noTally}
 use Rattle.meaning.specs.Texts.{text, digits, allWork, listingText, boardText}
@@ -357,3 +358,133 @@ p3-edition-11 = refl
 p3-edition-0 : writeApart 0 [] [] [] [] 0 2 ≡ refused 11
 unfolding meaning
 p3-edition-0 = refl
+
+-- ---- request P4: the directly addressed list
+p4-empty : read (code 8) (0 ∷ 0 ∷ 0 ∷ 0 ∷ []) 0 ≡ given []
+unfolding meaning
+p4-empty = refl
+
+p4-no-header : read (code 8) [] 0 ≡ refused 9
+unfolding meaning
+p4-no-header = refl
+
+p4-eight : judge 0 (8 ∷ replicate 14 0) ≡ given tt
+unfolding meaning
+p4-eight = refl
+
+p4-nine : judge 0 (9 ∷ replicate 14 0) ≡ refused 3
+unfolding meaning
+p4-nine = refl
+
+p4-worst : worstSize (8 ∷ replicate 14 0) 128 ≡ given 582
+unfolding meaning
+p4-worst = refl
+
+-- the parts' ends come first, also for a lookup: a data byte too few, and a number of data bytes near 2^32
+p4-data-cut : look (code 8) (2 ∷ 0 ∷ 0 ∷ 0 ∷ 3 ∷ 5 ∷ []) 2 0 ≡ refused 9
+unfolding meaning
+p4-data-cut = refl
+
+p4-far : look (code 8) (255 ∷ 255 ∷ 255 ∷ 255 ∷ 1 ∷ 5 ∷ []) 1 0 ≡ refused 9
+unfolding meaning
+p4-far = refl
+
+-- reading asks for spare bits, for the last bit and for as many ones as numbers; a lookup does not
+p4-spare-read : read (code 8) (1 ∷ 0 ∷ 0 ∷ 0 ∷ 3 ∷ 5 ∷ []) 1 ≡ refused 9
+unfolding meaning
+p4-spare-read = refl
+
+p4-spare-looked : look (code 8) (1 ∷ 0 ∷ 0 ∷ 0 ∷ 3 ∷ 5 ∷ []) 1 0 ≡ given 5
+unfolding meaning
+p4-spare-looked = refl
+
+-- a spare bit ends no number
+p4-spare-end : look (code 8) (1 ∷ 0 ∷ 0 ∷ 0 ∷ 3 ∷ 5 ∷ []) 2 1 ≡ refused 9
+unfolding meaning
+p4-spare-end = refl
+
+p4-last-read : read (code 8) (2 ∷ 0 ∷ 0 ∷ 0 ∷ 1 ∷ 5 ∷ 6 ∷ []) 1 ≡ refused 9
+unfolding meaning
+p4-last-read = refl
+
+p4-last-looked : look (code 8) (2 ∷ 0 ∷ 0 ∷ 0 ∷ 1 ∷ 5 ∷ 6 ∷ []) 1 0 ≡ given 5
+unfolding meaning
+p4-last-looked = refl
+
+p4-more-ones : read (code 8) (2 ∷ 0 ∷ 0 ∷ 0 ∷ 3 ∷ 5 ∷ 6 ∷ []) 1 ≡ refused 9
+unfolding meaning
+p4-more-ones = refl
+
+p4-more-looked : look (code 8) (2 ∷ 0 ∷ 0 ∷ 0 ∷ 3 ∷ 5 ∷ 6 ∷ []) 1 0 ≡ given 5
+unfolding meaning
+p4-more-looked = refl
+
+-- at most four bytes, and the fewest
+p4-five-bytes : look (code 8) (5 ∷ 0 ∷ 0 ∷ 0 ∷ 0x10 ∷ 1 ∷ 2 ∷ 3 ∷ 4 ∷ 5 ∷ []) 1 0 ≡ refused 9
+unfolding meaning
+p4-five-bytes = refl
+
+p4-longer : look (code 8) (2 ∷ 0 ∷ 0 ∷ 0 ∷ 2 ∷ 5 ∷ 0 ∷ []) 1 0 ≡ refused 9
+unfolding meaning
+p4-longer = refl
+
+-- 1,024 numbers of one byte with these sums: all are 1 but those at places 11 and 513
+abbrev summed : List ℕ → List ℕ
+summed sums = 0 ∷ 4 ∷ 0 ∷ 0 ∷ (replicate 128 255 ++ (sums ++ (replicate 11 1 ++ (11 ∷ replicate 501 1 ++ (7 ∷ replicate 510 1)))))
+
+p4-true-sums : look (code 8) (summed (0 ∷ 2 ∷ 0 ∷ 4 ∷ [])) 1024 11 ≡ given 11
+unfolding meaning
+p4-true-sums = refl
+
+-- a false sum is a fault to reading, and a lookup goes by it: place 11 is the second number after 10 that end before the second stretch
+p4-false-read : read (code 8) (summed (10 ∷ 0 ∷ 0 ∷ 4 ∷ [])) 1024 ≡ refused 9
+unfolding meaning
+p4-false-read = refl
+
+p4-false-looked : look (code 8) (summed (10 ∷ 0 ∷ 0 ∷ 4 ∷ [])) 1024 11 ≡ given 7
+unfolding meaning
+p4-false-looked = refl
+
+-- sums that fall: none is above the place, and no bit follows the last
+p4-falling : look (code 8) (summed (10 ∷ 0 ∷ 5 ∷ 0 ∷ [])) 1024 11 ≡ refused 9
+unfolding meaning
+p4-falling = refl
+
+-- below a stage each place is looked up by itself: the second number is in more bytes than it needs
+p4-reference-first : look (reference (code 8)) (1 ∷ 0 ∷ 0 ∷ 0 ∷ 3 ∷ 0 ∷ 0 ∷ 0 ∷ 5 ∷ 9 ∷ 5 ∷ 0 ∷ []) 2 0 ≡ given 10
+unfolding meaning
+p4-reference-first = refl
+
+p4-differences-second : look (differences (code 8)) (3 ∷ 0 ∷ 0 ∷ 0 ∷ 6 ∷ 5 ∷ 0 ∷ 9 ∷ []) 2 1 ≡ refused 9
+unfolding meaning
+p4-differences-second = refl
+
+p4-second-alone : look (code 8) (3 ∷ 0 ∷ 0 ∷ 0 ∷ 6 ∷ 5 ∷ 0 ∷ 9 ∷ []) 2 1 ≡ given 9
+unfolding meaning
+p4-second-alone = refl
+
+-- an empty values body has 4 bytes
+p4-empty-runs : write (runs (code 8) (code 1)) [] ≡ 0 ∷ 0 ∷ 0 ∷ 0 ∷ 4 ∷ 0 ∷ 0 ∷ 0 ∷ 0 ∷ 0 ∷ 0 ∷ 0 ∷ []
+unfolding meaning
+p4-empty-runs = refl
+
+-- rank takes bits 0 through their number, select ones from 0
+p4-rank : rank (0x45 ∷ 0x80 ∷ []) 3 ≡ given 2
+unfolding meaning
+p4-rank = refl
+
+p4-rank-all : rank (0x45 ∷ 0x80 ∷ []) 16 ≡ given 4
+unfolding meaning
+p4-rank-all = refl
+
+p4-rank-beyond : rank (0x45 ∷ 0x80 ∷ []) 17 ≡ refused 6
+unfolding meaning
+p4-rank-beyond = refl
+
+p4-select : select (0x45 ∷ 0x80 ∷ []) 3 ≡ given 15
+unfolding meaning
+p4-select = refl
+
+p4-select-beyond : select (0x45 ∷ 0x80 ∷ []) 4 ≡ refused 6
+unfolding meaning
+p4-select-beyond = refl

@@ -3,7 +3,7 @@ use Prim.Native.Nat.{ℕ, _+_, _*_, _≤_, _<_}
 use mathlib.Core.Path.{_≡_}
 use mathlib.Core.List.{List, []}
 use lib.ListN.{length, getD}
-use Rattle.meaning.specs.Answer.{Answer, given, refused}
+use Rattle.meaning.specs.Answer.{Answer, given}
 use Rattle.meaning.specs.Limits.{numberLimit, mostNumbers}
 use Rattle.meaning.specs.Places.{Below, Spare}
 use Rattle.meaning.specs.Codes.{Code, Way, byUnits, directly, lookBy, readCode, lookCode}
@@ -17,11 +17,10 @@ pub record Read (c : Code) (body : List ℕ) (n : ℕ) (xs : List ℕ) : Type 0 
   pub many : length xs ≡ n
   pub small : Below numberLimit xs
 
--- what a direct lookup owes: where reading succeeds it gives the number there, it refuses where the start does, and whatever it is refused by is a fault
+-- what a direct lookup owes: where reading succeeds it gives the number there, and whatever it is refused by is a fault
 pub record Direct (c : Code) (look : List ℕ → ℕ → Answer ℕ) : Type 0 where
   pub agrees : (body : List ℕ) (n : ℕ) (xs : List ℕ) → Below 256 body → readCode c body n ≡ given xs → (place : ℕ) → place < length xs
       → look body place ≡ given (getD xs place 0)
-  pub starts : (body : List ℕ) (n e place : ℕ) → c .start body n ≡ refused e → look body place ≡ refused e
   pub faulty : (body : List ℕ) (place : ℕ) → Faulty (look body place)
 
 -- a lookup by units owes nothing more: its laws are the same for every code
@@ -62,13 +61,3 @@ module _ (c : Code) (body : List ℕ) (n : ℕ) (xs : List ℕ) (b : Below 256 b
   pub look-code : Lawful c → lookCode c body n place ≡ given (getD xs place 0)
   unfolding lookCode
   look-code l = look-by (c .way) (l .looked)
-
--- where the start is refused, so is every lookup
-module _ {c : Code} (l : Lawful c) (body : List ℕ) (n e place : ℕ) (h : c .start body n ≡ refused e) where
-  starts-by : (w : Way) → Looked c w → lookBy c w body n place ≡ refused e
-  starts-by byUnits t = rw h
-  starts-by (directly look) t = t .starts body n e place h
-
-  pub look-starts : lookCode c body n place ≡ refused e
-  unfolding lookCode
-  look-starts = starts-by (c .way) (l .looked)

@@ -34,7 +34,8 @@ returns-7 c =
 returns-8 : tie.Need-returns-8
 returns-8 c =
     let r = c .before .before .before .before .match .rest in
-    rw (code-7 _ (r .0 .0 .0 .0 .0 .0 .1) (r .0 .0 .0 .0 .0 .1) (r .0 .0 .0 .0 .1) (r .0 .0 .0 .1) (r .0 .0 .1) (r .0 .1) (r .1)) (c .before .before .write-batches .ensures)
+    rw (code-7 _ (r .0 .0 .0 .0 .0 .0 .1) (r .0 .0 .0 .0 .0 .1) (r .0 .0 .0 .0 .1) (r .0 .0 .0 .1) (r .0 .0 .1) (r .0 .1) (r .1))
+    (c .before .before .write-batches .ensures)
 
 pub write-code-spec : {M : Type 1} → statement M
 write-code-spec =

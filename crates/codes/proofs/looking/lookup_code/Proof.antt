@@ -4,9 +4,9 @@ use Prim.Native.Nat.{ℕ, _-_, _≤_, _<_}
 use mathlib.Core.Path.{_≡_, sym, ap, _∙_}
 use native.Mathlib.Omega.{arith}
 use lib.ListN.{length}
-use Rattle.meaning.specs.Answer.{given, refused}
+use Rattle.meaning.specs.Answer.{Answer, given, refused}
 use Rattle.meaning.specs.Limits.{mostNumbers, unitPlaces}
-use Rattle.codes.proofs.Lookings.{Looking, looking-start, start-refuses, refuses, passes, looking-on, gone-units, found}
+use Rattle.codes.proofs.Lookings.{Looking, looking-start, start-refuses, refuses, passes, looking-on, found}
 use Rattle.codes.proofs.Numbered.{way-units, look-eight}
 use Rattle.codes.proofs.Stretches.{goes-on, passed-long}
 use Rattle.codes.proofs.looking.lookup_code.Statement.{statement}
@@ -25,19 +25,24 @@ At point = point Inv-loop μ-loop
 
 returns : tie.Need-returns Inv-loop μ-loop
 returns c =
-    let direct : At tie.Then1 = search in
+    let taken : At tie.Then1 = search in
     let asked : At tie.After-is-direct = search in
     let start : At tie.Start = search in
-    c .lookup .ensures ∙ sym (look-eight (start .args .code) (sym (asked .is-direct .ensures) ∙ direct .if1 .taken) (start .args .body .now) (start .args .n) _)
+    let a = start .args in
+    let eight = look-eight (a .code) (sym (asked .is-direct .ensures) ∙ taken .if1 .taken) (a .body .now) (a .n) in
+    c .lookup .ensures ∙ sym (ap (λ (at : ℕ → Answer ℕ). at (a .place .number)) eight)
 
 returns-2 : tie.Need-returns-2 Inv-loop μ-loop
 returns-2 c =
     let told : At tie.After-enum-told = search in
     let started : At tie.After-start-at = search in
+    let other : At tie.Else1 = search in
+    let asked : At tie.After-is-direct = search in
     let start : At tie.Start = search in
     let a = start .args in
+    let units = way-units (a .code) (sym (asked .is-direct .ensures) ∙ other .if1 .left) in
     ap (λ (e : ℕ). refused e) (c .start-refusal .ensures)
-    ∙ sym (start-refuses (a .code) (a .body .now) (a .n) (started .start-at .ensures) (told .enum-told .given .1) (a .place .number))
+    ∙ sym (start-refuses (a .code) (a .body .now) (a .n) units (started .start-at .ensures) (told .enum-told .given .1) (a .place .number))
 
 loop-holds : tie.Need-loop-holds Inv-loop μ-loop
 loop-holds c =
@@ -48,8 +53,10 @@ loop-holds c =
     let other : At tie.Else1 = search in
     let asked : At tie.After-is-direct = search in
     let start : At tie.Start = search in
-    let a = start .args in (
-      looking-start (a .code) (a .body .now) (a .n) (started .start-at .ensures) (way-units (a .code) (sym (asked .is-direct .ensures) ∙ other .if1 .left)) (λ i. known .shared-slice-known .given i .fits) (start .pre .short)
+    let a = start .args in
+    let units = way-units (a .code) (sym (asked .is-direct .ensures) ∙ other .if1 .left) in (
+      looking-start (a .code) (a .body .now) (a .n) units (started .start-at .ensures)
+          (λ i. known .shared-slice-known .given i .fits) (start .pre .short)
           (told .started .given .1),
       omega arith,
       start .pre .inside,
@@ -103,7 +110,7 @@ returns-4 c =
     let turn : At tie.At-loop = search in
     let (l, most, inside, few, long, one, eight) = turn .loop .inv in
     let g = goes-on (went .stretch .ensures) (told .went .given .1) in
-    sym (found (gone-units l (omega arith) g) (omega (arith, least .lesser .ensures, long)) _ most (c .if2 .taken) (omega (arith, least .lesser .ensures, g .few, c .if2 .taken)))
+    sym (found l g (omega (arith, least .lesser .ensures, long)) _ most (c .if2 .taken) (omega (arith, least .lesser .ensures, g .few, c .if2 .taken)))
 
 add-passed : tie.Need-add-passed Inv-loop μ-loop
 add-passed c =
