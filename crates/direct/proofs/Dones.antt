@@ -13,7 +13,6 @@ use Rattle.meaning.specs.Bits.{bitsLow, lowBits}
 use Rattle.meaning.specs.Direct.{flagBytes, sumCount, dataAt, partsFit, flags, sumAt, trueSums, spareZero, doneDirect}
 use Rattle.meaning.specs.Limits.{mostBytes}
 use Rattle.meaning.specs.Lists.{all, sum, joined}
-use Rattle.meaning.specs.Places.{Below}
 use Rattle.meaning.specs.Rank.{onesBefore}
 use Rattle.meaning.specs.declared.Position.{Position}
 use Rattle.meaning.proofs.Ranks.{ones-add, ones-few}

@@ -96,17 +96,22 @@ module _ {body : List ℕ} {d : ℕ} (fit : Fit body d) where
       rw (← (fit .is)) (getD-take d (lowBits (drop 4 body)) i 0 h)
       ∙ low-get (drop 4 body) i ∙ ap (λ (b : ℕ). b / 2 ^ (i % 8) % 2) (getD-drop 4 body (i / 8) 0)
 
-  -- those from a stretch on, by their bytes
-  pub flags-drop : (s : ℕ) → 512 * s ≤ d → drop (512 * s) (flags body) ≡ take (d - 512 * s) (lowBits (drop (4 + 64 * s) body))
+  -- those from a bit on
+  pub flags-from : (i : ℕ) → i ≤ d → drop i (flags body) ≡ take (d - i) (drop i (lowBits (drop 4 body)))
   unfolding flags
-  flags-drop s h =
+  flags-from i h =
       let bits = lowBits (drop 4 body) in
       let there = standing in
-      let e : d ≡ 512 * s + (d - 512 * s) = omega arith in
+      let e : d ≡ i + (d - i) = omega arith in
+      let long : length (take i bits) ≡ i = length-take-le i bits (omega (arith, low-length (drop 4 body), length-drop 4 body, there .ends)) in
+      ap (λ (n : ℕ). drop i (take n bits)) (sym (fit .is) ∙ e)
+      ∙ ap (drop i) (take-add i (d - i) bits)
+      ∙ drop-at (take i bits) (take (d - i) (drop i bits)) i long
+
+  -- those from a stretch on, by their bytes
+  pub flags-drop : (s : ℕ) → 512 * s ≤ d → drop (512 * s) (flags body) ≡ take (d - 512 * s) (lowBits (drop (4 + 64 * s) body))
+  flags-drop s h =
       let m : 512 * s ≡ 8 * (64 * s) = omega arith in
-      let long : length (take (512 * s) bits) ≡ 512 * s =
-      length-take-le (512 * s) bits (omega (arith, low-length (drop 4 body), length-drop 4 body, there .ends)) in
-      ap (λ (n : ℕ). drop (512 * s) (take n bits)) (sym (fit .is) ∙ e)
-      ∙ ap (drop (512 * s)) (take-add (512 * s) (d - 512 * s) bits)
-      ∙ drop-at (take (512 * s) bits) (take (d - 512 * s) (drop (512 * s) bits)) (512 * s) long
-      ∙ ap (take (d - 512 * s)) (ap (λ (n : ℕ). drop n bits) m ∙ low-drop (64 * s) (drop 4 body) ∙ ap lowBits (drop-drop (64 * s) 4 body))
+      flags-from (512 * s) h
+      ∙ ap (take (d - 512 * s))
+      (ap (λ (n : ℕ). drop n (lowBits (drop 4 body))) m ∙ low-drop (64 * s) (drop 4 body) ∙ ap lowBits (drop-drop (64 * s) 4 body))

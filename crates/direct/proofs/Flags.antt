@@ -4,7 +4,7 @@ use mathlib.Core.Path.{_≡_, refl, sym, ap, ap₂, _∙_}
 use mathlib.Core.List.{List, [], _∷_, _++_, append-assoc, append-nil}
 use native.Mathlib.Nat.{add-zero, add-assoc, sub-zero, pow-suc, one-mul}
 use native.Mathlib.Omega.{arith}
-use lib.ListN.{length, getD, take, set, length-append}
+use lib.ListN.{length, getD, set, length-append}
 use lib.Pow.{pow-pos, pow-add, pow-mono, shl-exact}
 use lib.Seq.{take-at, drop-at, take-all}
 use Rattle.meaning.specs.Bits.{bitsLow, numberLow, packLow}

@@ -1,11 +1,10 @@
 -- Code 8 is lawful: what it writes reads back, what it reads is what would be written, its size is as told, and a number is found directly. Assumes nothing.
 use Prim.Native.Nat.{ℕ, _+_, _/_, _≤_}
-use mathlib.Core.Path.{_≡_, sym, ap, subst}
-use mathlib.Core.Bool.{Bool, true, false}
+use mathlib.Core.Path.{_≡_, subst}
 use mathlib.Core.List.{List, []}
 use native.Mathlib.Omega.{arith}
 use lib.ListN.{length}
-use Rattle.meaning.specs.Answer.{Answer, given, refused, need}
+use Rattle.meaning.specs.Answer.{given}
 use Rattle.meaning.specs.Codes.{codeDirect, readCode, always}
 use Rattle.meaning.specs.DataBytes.{dataBytes}
 use Rattle.meaning.specs.Direct.{flagBytes, sumCount, sumsAt, dataAt, lastBits, writeDirect, worstDirect, partsFit, unitDirect, doneDirect, lookDirect}
@@ -14,7 +13,7 @@ use Rattle.meaning.specs.Lists.{joined}
 use Rattle.meaning.specs.Places.{Below}
 use Rattle.meaning.specs.Positions.{atBit}
 use Rattle.meaning.specs.declared.Position.{Position}
-use Rattle.meaning.proofs.Answers.{bind-given, need-given, need-faulty, not-given}
+use Rattle.meaning.proofs.Answers.{bind-given, need-given, need-faulty}
 use Rattle.meaning.proofs.Codes.{spare-always}
 use Rattle.meaning.proofs.Lawful.{Lawful, Read, Direct}
 use Rattle.meaning.proofs.Units.{read-many, read-written, read-holds}

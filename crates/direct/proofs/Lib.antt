@@ -2,13 +2,15 @@
 pub mod Lengths
 pub mod Sums
 pub mod Flags
-pub mod Writing
 pub mod Holding
 pub mod Written
+pub mod Writing
 pub mod Lookups
 pub mod Laws
 pub mod Fits
 pub mod Zeros
 pub mod Nexts
+pub mod Ones
+pub mod Plains
 pub mod Dones
 pub mod Looks

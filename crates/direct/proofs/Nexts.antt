@@ -1,11 +1,12 @@
 -- One number: in so many data bytes, from a data byte on, as a unit, and one after the other. Assumes nothing.
-use Prim.Native.Nat.{ℕ, suc, _+_, _-_, _≤_, _<_, min}
-use mathlib.Core.Path.{_≡_, refl, sym}
+use Prim.Native.Nat.{ℕ, suc, _+_, _-_, _^_, _≤_, _<_, min}
+use mathlib.Core.Path.{_≡_, refl, sym, ap, _∙_}
 use mathlib.Core.Bool.{Bool, true, false}
 use mathlib.Core.List.{List, [], _∷_}
 use native.Mathlib.Omega.{arith}
 use lib.Dec.{leb, eqb}
-use lib.ListN.{length, set, take, drop}
+use lib.ListN.{length, set, take, drop, length-set}
+use lib.Seq.{length-sets}
 use borrow.Author.Tests.{le-leb, lt-leb, eq-eqb, ne-eqb}
 use Rattle.meaning.specs.Answer.{Answer, given, refused, bind, need}
 use Rattle.meaning.specs.Bits.{zerosFirst}
@@ -26,7 +27,7 @@ use Rattle.meaning.proofs.Answers.{need-refused}
 use Rattle.meaning.proofs.Codes.{spare-always}
 use Rattle.meaning.proofs.Taking.{Takes, takes-start, takes-next, takes-long, takes-end}
 use Rattle.meaning.proofs.Tests.{by-order}
-use Rattle.direct.specs.Parts.{Fit, nextIn, nextSays}
+use Rattle.direct.specs.Parts.{Fit, nextIn, nextSays, Begun}
 use Rattle.direct.specs.declared.input.Next.{Next}
 use Rattle.direct.specs.declared.input.Next.the-variants as next
 
@@ -115,6 +116,9 @@ alike : (body : List ℕ) (left : ℕ) (p : Position) → unitDirect body left p
 unfolding unitDirect
 alike body left p = refl
 
+pub target-within : {body w₀ : List ℕ} {from room most : ℕ} → Target body w₀ from room → most ≤ room → Target body w₀ from most
+target-within t e = record { inside = omega (arith, t .inside); short = t .short }
+
 -- ---- one after the other: i numbers of at most `most` have been taken, and the next begins with data byte b
 pub record Taking (body : List ℕ) (d left : ℕ) (at : Position) (w₀ : List ℕ) (from most : ℕ) (w : List ℕ) (i b : ℕ) : Type 0 where
   pub fit : Fit body d
@@ -137,6 +141,34 @@ module _ {body : List ℕ} {d left : ℕ} {at : Position} {w₀ : List ℕ} {fro
         long = refl;
       }
 
+  -- what was begun goes on
+  pub taking-again : Fit body d → most ≤ left → from + most ≤ length w₀ → {w : List ℕ} {r : Taken}
+      → Begun body left at most from w₀ w r → Taking body d left at w₀ from most w (r .count) (r .next .bit .index)
+  taking-again fit within inside {w} {r} begun =
+      let took = begun .took in
+      let ends = begun .ends in
+      let so : Takes codeDirect body left at w₀ from w (r .count) (r .count) 0 (atBit (r .next .bit .index)) =
+      record {
+        numbers = took .numbers;
+        last = took .last;
+        q = r .next;
+        are = rw (ends .passed) at (took .are);
+        counted = took .counted;
+        here = took .here;
+        leaves = rw (ends .leaves) at (took .leaves);
+        alike = λ k. alike body k (r .next);
+        stays = ends .stays;
+        goes = ends .goes;
+      } in
+      record {
+        fit = fit;
+        so = so;
+        few = took .few;
+        within = within;
+        inside = inside;
+        long = takes-long codeDirect body left at w₀ from w (r .count) (r .count) 0 (atBit (r .next .bit .index)) so;
+      }
+
   module _ {w : List ℕ} {i b : ℕ} (t : Taking body d left at w₀ from most w i b) where
     pub taking-turn : i < most → (r : Next) → nextSays r ≡ nextIn body b → {x : ℕ} {after : Bit} → r ≡ next.Number x after
         → Taking body d left at w₀ from most (set w (from + i) x) (i + 1) (after .index)
@@ -157,3 +189,62 @@ module _ {body : List ℕ} {d left : ℕ} {at : Position} {w₀ : List ℕ} {fro
         → Took codeDirect body left at room from w₀ w r
     taking-end {room} {q} {r} m e ends =
         takes-end codeDirect body left at w₀ from w i i 0 (atBit b) (t .so) room r (omega (arith, t .few)) (rw e at ends)
+
+-- ---- what was begun
+pub begun-is : {body : List ℕ} {left : ℕ} {at : Position} {room from : ℕ} {w₀ w : List ℕ} {i b : ℕ} {r : Taken}
+    → Took codeDirect body left at room from w₀ w r → Ends at i i 0 (atBit b) r → Begun body left at room from w₀ w r
+begun-is {r = r} took ends =
+    record {
+      took = took;
+      ends = record {
+        counted = refl;
+        passed = ends .passed ∙ sym (ends .counted);
+        leaves = ends .leaves;
+        stays = λ z. ends .stays (sym (ends .counted) ∙ z);
+        goes = λ h. let e = ends .goes (rw (ends .counted) at h) in e ∙ ap (λ (p : Position). atBit (p .bit .index)) (sym e);
+      };
+    }
+
+-- the length stays
+pub begun-long : {body : List ℕ} {left : ℕ} {at : Position} {most from : ℕ} {w₀ w : List ℕ} {r : Taken} → Begun body left at most from w₀ w r
+    → length w ≡ length w₀
+begun-long {from = from} {w₀ = w₀} so = ap length (so .took .here) ∙ length-sets w₀ from (so .took .numbers)
+
+-- ---- a loop that begins where i₁ numbers stand in w₁: whatever they were stored over, i stand in w now
+pub record Onward (body : List ℕ) (d left : ℕ) (at : Position) (from most : ℕ) (w₁ : List ℕ) (i₁ b₁ : ℕ) (w : List ℕ) (i b : ℕ) : Type 0 where
+  pub fit : Fit body d
+  pub short : from + most < 2 ^ 62
+  pub inside : from + most ≤ length w
+  pub long : length w ≡ length w₁
+  pub on : (w₀ : List ℕ) → Taking body d left at w₀ from most w₁ i₁ b₁ → Taking body d left at w₀ from most w i b
+
+module _ {body : List ℕ} {d left : ℕ} {at : Position} {from most : ℕ} {w₁ : List ℕ} {i₁ b₁ : ℕ} where
+  pub onward-start : Fit body d → from + most < 2 ^ 62 → from + most ≤ length w₁ → Onward body d left at from most w₁ i₁ b₁ w₁ i₁ b₁
+  onward-start fit short inside = record { fit = fit; short = short; inside = inside; long = refl; on = λ w₀ t. t }
+
+  pub onward-turn : {w : List ℕ} {i b : ℕ} → Onward body d left at from most w₁ i₁ b₁ w i b
+      → i < most → (r : Next) → nextSays r ≡ nextIn body b → {x : ℕ} {after : Bit} → r ≡ next.Number x after
+      → Onward body d left at from most w₁ i₁ b₁ (set w (from + i) x) (i + 1) (after .index)
+  onward-turn s h r told e =
+      record {
+        fit = s .fit;
+        short = s .short;
+        inside = simp length-set (s .inside);
+        long = simp length-set (s .long);
+        on = λ w₀ t. taking-turn (s .on w₀ t) h r told e;
+      }
+
+-- where they were begun
+module _ {body : List ℕ} {d left : ℕ} {at : Position} {from most : ℕ} {w₁ : List ℕ} {begun : Taken} {w : List ℕ} {i b : ℕ}
+    (s : Onward body d left at from most w₁ (begun .count) (begun .next .bit .index) w i b) where
+  pub onward-long : {w₀ : List ℕ} → Begun body left at most from w₀ w₁ begun → length w ≡ length w₀
+  onward-long so = s .long ∙ begun-long so
+
+  pub onward-end : {w₀ : List ℕ} {room : ℕ} → most ≡ min left room → Begun body left at most from w₀ w₁ begun
+      → {q : Position} {r : Taken} → q ≡ atBit b → Ends at i i 0 q r → Took codeDirect body left at room from w₀ w r
+  onward-end {w₀} m so e ends =
+      taking-end (s .on w₀ (taking-again (s .fit) (omega arith) (omega (arith, s .inside, onward-long so)) so)) m e ends
+
+  pub onward-begun : {w₀ : List ℕ} {room : ℕ} → most ≡ min left room → Begun body left at most from w₀ w₁ begun
+      → {q : Position} {r : Taken} → q ≡ atBit b → Ends at i i 0 q r → Begun body left at room from w₀ w r
+  onward-begun m so e ends = begun-is (onward-end m so e ends) (rw e at ends)

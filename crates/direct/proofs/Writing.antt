@@ -11,12 +11,13 @@ use Rattle.meaning.specs.Direct.{flagBytes, sumCount, sumsAt, dataAt, lastBits,
 use Rattle.meaning.specs.Lists.{joined}
 use Rattle.meaning.specs.Places.{Source, Wrote, part}
 use Rattle.meaning.specs.declared.Offset.{Offset}
-use Rattle.leaves.proofs.Putting.{wrote-after}
+use Rattle.leaves.proofs.Putting.{wrote-after, wrote-past}
 use Rattle.words.proofs.Bytes.{bytes-length}
 use Rattle.words.proofs.LowBits.{pack-length}
 use Rattle.words.proofs.Puts.{data-bound}
 use Rattle.direct.specs.Parts.{flagsOf, sumsOf}
 use Rattle.direct.proofs.Sums.{sums-length}
+use Rattle.direct.proofs.Written.{parts-length}
 
 module _ {list : List ℕ} {first n at d : ℕ} (asked : Source list first n at) (is : d ≡ length (dataBytes (part list first n))) where
   pub data-few : d ≤ 4 * n
@@ -30,6 +31,12 @@ module _ {list : List ℕ} {first n at d : ℕ} (asked : Source list first n at)
   pub data-near : at + dataAt d + 4 * n < 2 ^ 63
   unfolding dataAt sumsAt sumCount flagBytes
   data-near = omega (arith, data-few, asked .short)
+
+-- nothing of them lies within the output
+pub parts-past : (xs : List ℕ) {d at : ℕ} {out : List ℕ} → d ≡ length (dataBytes xs) → length out ≤ at
+    → Wrote (writeDirect xs) at out out (record { byte = at + dataAt d + d })
+unfolding writeDirect
+parts-past xs is h = wrote-past h (omega (arith, ap dataAt is, parts-length (length (dataBytes xs)) (joined lastBits xs) (dataBytes xs)))
 
 -- where each part ends the next begins
 pub parts-written : (xs : List ℕ) {d at : ℕ} {out out₁ out₂ out₃ out₄ : List ℕ} {flags sums end : Offset} → d ≡ length (dataBytes xs)

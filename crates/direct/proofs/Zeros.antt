@@ -27,7 +27,7 @@ from-start {body} {d} {first} fit h =
     record { fit = fit; few = omega arith; inside = omega arith; on = rw e (omega arith) }
 
 -- a bit that is no zero, and one that is
-no-zero : (b : ℕ) (bits : List ℕ) → eqb b 0 ≡ false → zerosFirst (b ∷ bits) ≡ 0
+pub no-zero : (b : ℕ) (bits : List ℕ) → eqb b 0 ≡ false → zerosFirst (b ∷ bits) ≡ 0
 unfolding zerosFirst
 no-zero zero bits e = absurd (eqb-false 0 0 e refl)
 no-zero (suc b) bits e = refl

@@ -10,9 +10,14 @@ use Rattle.meaning.specs.Bits.{packLow, zerosFirst}
 use Rattle.meaning.specs.Bytes.{wordAt}
 use Rattle.meaning.specs.DataBytes.{dataBytes}
 use Rattle.meaning.specs.Direct.{flagBytes, sumCount, lastBits, sumBytes, partsFit, flags, numberIn, stretchOf, endedBefore, stretchBits, endingAt}
+use Rattle.meaning.specs.Codes.{codeDirect}
 use Rattle.meaning.specs.Limits.{fault}
 use Rattle.meaning.specs.Lists.{joined}
+use Rattle.meaning.specs.Places.{Took, Ends}
+use Rattle.meaning.specs.Positions.{atBit}
 use Rattle.meaning.specs.Rank.{oneAt}
+use Rattle.meaning.specs.declared.Position.{Position}
+use Rattle.meaning.specs.declared.Taken.{Taken}
 use Rattle.direct.specs.declared.input.Heading.{Heading}
 use Rattle.direct.specs.declared.input.Heading.the-variants as heading
 use Rattle.direct.specs.declared.input.Next.{Next}
@@ -42,6 +47,11 @@ nextIn body i =
 abbrev pub nextSays : Next → Answer (ℕ × ℕ)
 nextSays (next.Number x end) = given (x, end .index)
 nextSays (next.Refused e) = refused e
+
+-- numbers were taken, and taking goes on from there
+pub record Begun (body : List ℕ) (left : ℕ) (at : Position) (room from : ℕ) (work work′ : List ℕ) (r : Taken) : Type 0 where
+  pub took : Took codeDirect body left at room from work work′ r
+  pub ends : Ends at (r .count) (r .count) 0 (atBit (r .next .bit .index)) r
 
 -- the stretch that a place is looked up in, and the numbers that end before it, by the sums
 pub record Leads (body : List ℕ) (d place : ℕ) (r : Stretch) : Type 0 where

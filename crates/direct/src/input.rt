@@ -10,7 +10,7 @@ use words::word_at;
 ghost use mathlib.Core.Path.{_≡_};
 ghost use Prim.Native.Nat.{_+_, _<_, _≤_, _^_, min};
 ghost use lib.Dec.{eqb};
-ghost use lib.ListN.{length, getD, drop};
+ghost use lib.ListN.{getD, drop};
 ghost use Rattle.meaning.specs.Answer.{given, need};
 ghost use Rattle.meaning.specs.Bits.{zerosFirst};
 ghost use Rattle.meaning.specs.Bytes.{wordAt};

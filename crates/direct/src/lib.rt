@@ -2,6 +2,7 @@
 pub mod input;
 pub mod looking;
 pub mod output;
+pub mod plain;
 
 use bits::words_of::ones_in;
 use input::Heading;
@@ -22,11 +23,11 @@ use meaning::Taken;
 use meaning::Unit;
 use meaning::UnitRead;
 pub use output::write;
+use plain::take_plain;
 ghost use mathlib.Core.Path.{_≡_};
 ghost use mathlib.Core.Bool.{true};
 ghost use Prim.Native.Nat.{_≤_};
 ghost use lib.ListN.{length};
-ghost use Rattle.meaning.specs.Bytes.{wordAt};
 ghost use Rattle.meaning.specs.Codes.{codeDirect};
 ghost use Rattle.meaning.specs.Direct.{spareZero, trueSums, sumCount};
 ghost use Rattle.meaning.specs.Limits.{mostBytes};
@@ -63,6 +64,7 @@ pub fn unit(body: &[u8], left: usize, at: Position) -> UnitRead
 }
 
 // Takes numbers from a position on into work, from a place on, and at most as many as there is room for: it stops at a fault and refuses nothing.
+// Plain numbers first; from the first that is not, one by one.
 pub fn take(
     body: &[u8],
     left: usize,
@@ -79,8 +81,9 @@ pub fn take(
         return taken(at, 0, 0, 0, at);
     };
     let most = lesser(left, room);
-    let mut i: usize = 0;
-    let mut to = at.bit;
+    let begun = take_plain(body, d, left, at, work, from, most);
+    let mut i = begun.count;
+    let mut to = begun.next.bit;
     while i < most {
         let Next::Number(x, end) = next_number(body, d, to) else {
             return taken(at, i, i, 0, from_bit(to));

@@ -8,7 +8,6 @@ use words::byte_length;
 use words::data_length;
 use words::put_data;
 use words::put_number;
-ghost use mathlib.Core.Path.{_≡_};
 ghost use Prim.Native.Nat.{_+_, _*_, _<_, _≤_, _^_};
 ghost use lib.ListN.{length};
 ghost use Rattle.meaning.specs.Codes.{codeDirect};
@@ -78,10 +77,15 @@ pub fn write(list: &[u32], from: Place, n: usize, out: &mut [u8], at: Offset) ->
 {
     let start = at.byte;
     let d = data_length(list, from, n);
+    let data = start + data_at(d);
+    // Where nothing lies within the output, only the size is asked for.
+    if out.len() <= start {
+        let end = data + d;
+        return Offset { byte: end };
+    }
     put_number(out, at, d, 4);
     put_flags(list, from, n, out, Offset { byte: start + 4 });
     let sums = start + sums_at(d);
     put_sums(list, from, n, out, Offset { byte: sums });
-    let data = start + data_at(d);
     put_data(list, from, n, out, Offset { byte: data })
 }

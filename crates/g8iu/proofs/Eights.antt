@@ -2,7 +2,6 @@
 use Prim.Native.Nat.{ℕ, zero, suc, _+_, _≤_, _<_}
 use mathlib.Core.Path.{_≡_, refl, sym, ap, ap₂, _∙_}
 use mathlib.Core.List.{List, [], _∷_, _++_}
-use native.Mathlib.Numerals.{towards-suc}
 use native.Mathlib.Omega.{arith}
 use lib.ListN.{length, getD, take, drop, set, replicate, drop-of-length-le}
 use lib.Seq.{sets, length-sets, drop-cons, set-getD, set-set}
@@ -16,7 +15,7 @@ use Rattle.meaning.specs.Lists.{all, sum}
 use Rattle.meaning.specs.Places.{Below, part}
 use Rattle.meaning.proofs.Bounds.{below-take, below-drop}
 use Rattle.meaning.proofs.Stores.{sets-snoc, set-sets, part-sets}
-use Rattle.leaves.proofs.Parts.{part-length, part-snoc, part-each}
+use Rattle.leaves.proofs.Parts.{part-length, part-snoc}
 use Rattle.g8iu.specs.Blocks.{dataAt, Ending, BlockIs, BegunIs}
 use Rattle.g8iu.proofs.Masks.{length-1}
 use Rattle.g8iu.proofs.Numbers.{or-given, end-some}
@@ -48,15 +47,6 @@ module _ {list : List ℕ} {from : ℕ} {out₀ : List ℕ} {to : ℕ} {out : Li
 
   pub eight-end : 8 ≤ i → out ≡ sets out₀ to (part list from 8)
   eight-end h = let e : i ≡ 8 = omega (arith, so .high) in rw e at (so .here)
-
--- ---- the eight elements of a list from an offset on, stored one after another
-pub eight-stored : (list : List ℕ) (from : ℕ) (out : List ℕ) (to : ℕ) {a b c d e f g h : ℕ} → from + 8 ≤ length list
-    → a ≡ getD list from 0 → b ≡ getD list (from + 1) 0 → c ≡ getD list (from + 2) 0 → d ≡ getD list (from + 3) 0
-    → e ≡ getD list (from + 4) 0 → f ≡ getD list (from + 5) 0 → g ≡ getD list (from + 6) 0 → h ≡ getD list (from + 7) 0
-    → set (set (set (set (set (set (set (set out to a) (to + 1) b) (to + 2) c) (to + 3) d) (to + 4) e) (to + 5) f) (to + 6) g) (to + 7) h
-    ≡ sets out to (part list from 8)
-eight-stored list from out to inside ea eb ec ed ee ef eg eh =
-    rw (ea, eb, ec, ed, ee, ef, eg, eh, part-each 8 list from inside) (simp towards-suc refl)
 
 -- ---- the block of control byte 0
 eight-lengths : blockLengths 0 ≡ replicate 8 1

@@ -1,40 +1,23 @@
 -- Data bytes as one number: its lowest bytes masked are the block's next number, where that many bytes hold it and no fewer. Assumes nothing.
-use Prim.Native.Nat.{ℕ, zero, suc, _+_, _*_, _/_, _%_, _^_, _≤_, _<_}
-use mathlib.Core.Path.{_≡_, refl, ap, _∙_}
+use Prim.Native.Nat.{ℕ, zero, suc, _+_, _*_, _%_, _^_, _≤_, _<_}
+use mathlib.Core.Path.{_≡_, refl, _∙_}
 use mathlib.Core.Bool.{true, false, _||_}
 use mathlib.Core.List.{List, [], _∷_}
 use native.Mathlib.Omega.{arith}
 use lib.Bits.{bitAnd, and-mask, and-le-r}
 use lib.Dec.{leb, ltb, eqb}
-use lib.ListN.{getD, take, drop}
-use lib.Pow.{pow-pos, pow-add, low, high}
+use lib.ListN.{getD, take}
 use borrow.Author.Tests.{lt-leb, ne-eqb, ltb-true}
 use Rattle.meaning.specs.Bytes.{numberOf}
 use Rattle.meaning.specs.DataBytes.{byteLength}
 use Rattle.meaning.specs.Lists.{all}
 use Rattle.meaning.specs.Places.{Below}
 use Rattle.meaning.proofs.Tests.{by-order}
-use Rattle.words.proofs.Bytes.{number-split}
+use Rattle.words.proofs.Bytes.{number-few, number-low}
 use Rattle.words.proofs.DataBytes.{held}
 use Rattle.words.proofs.Straight.{fewest-1, fewest-2, fewest-3, fewest-4}
 use Rattle.g8iu.specs.Blocks.{mostOf, leastOf}
 use Rattle.g8iu.proofs.Tables.{at-each}
-
--- ---- bytes as one number: the first l of them, and the rest
-small : (l : ℕ) (bs : List ℕ) → Below 256 bs → numberOf (take l bs) < 2 ^ (8 * l)
-unfolding numberOf
-small zero bs h = omega arith
-small (suc l) [] h = pow-pos (8 * suc l)
-small (suc l) (b ∷ bs) h =
-    let e : 8 * suc l ≡ 8 * l + 8 = omega arith in
-    rw (e, pow-add 2 (8 * l) 8) (omega (arith, h 0, small l bs (λ i. h (suc i))))
-
-module _ (l : ℕ) (bs : List ℕ) (h : Below 256 bs) where
-  low-bytes : numberOf bs % 2 ^ (8 * l) ≡ numberOf (take l bs)
-  low-bytes = ap (λ (n : ℕ). n % 2 ^ (8 * l)) (number-split l bs) ∙ low (numberOf (drop l bs)) (8 * l) (small l bs h)
-
-  pub high-bytes : numberOf bs / 2 ^ (8 * l) ≡ numberOf (drop l bs)
-  high-bytes = ap (λ (n : ℕ). n / 2 ^ (8 * l)) (number-split l bs) ∙ high (numberOf (drop l bs)) (8 * l) (small l bs h)
 
 -- all bytes are 0 where their number is, and only there
 pub clear-true : (bs : List ℕ) → numberOf bs ≡ 0 → all (eqb 0) bs ≡ true
@@ -108,12 +91,12 @@ module _ (bytes : List ℕ) (bound : Below 256 bytes) (f : ℕ) (h : f < 8) wher
   next-number = numberOf (take (f + 1) bytes)
 
   masked-is : f ≤ 3 → bitAnd (numberOf bytes) (getD mostOf f 0) ≡ next-number
-  masked-is g = masked (numberOf bytes) f g ∙ low-bytes (f + 1) bytes bound
+  masked-is g = masked (numberOf bytes) f g ∙ number-low (f + 1) bytes bound
 
   pub number-whole : getD leastOf f 0 ≤ bitAnd (numberOf bytes) (getD mostOf f 0) → NextIs bytes f
   number-whole l =
       let g = few-bytes (numberOf bytes) f h l in
-      record { few = g; is = masked-is g; needs = needs-all next-number f g (small (f + 1) bytes bound) (rw (masked-is g) at l) }
+      record { few = g; is = masked-is g; needs = needs-all next-number f g (number-few (f + 1) bytes bound) (rw (masked-is g) at l) }
 
   pub number-short : bitAnd (numberOf bytes) (getD mostOf f 0) < getD leastOf f 0 → byteLength next-number ≡ f + 1 → ⊥
   number-short l e =

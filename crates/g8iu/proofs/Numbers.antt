@@ -21,9 +21,10 @@ use Rattle.meaning.proofs.Bounds.{below-take, below-drop}
 use Rattle.meaning.proofs.Stores.{sets-snoc}
 use Rattle.meaning.proofs.Units.{join}
 use Rattle.leaves.proofs.Parts.{part-length}
+use Rattle.words.proofs.Bytes.{number-high}
 use Rattle.g8iu.specs.Blocks.{numbersIn, dataAt, numbersAt, orFault, endOf, Ending, BegunIs}
 use Rattle.g8iu.proofs.Ends.{lengthsOf, FirstIs, first-is, lengths-start, lengths-none}
-use Rattle.g8iu.proofs.Masks.{high-bytes, clear-true, clear-false, masked-small, NextIs, number-whole, number-short}
+use Rattle.g8iu.proofs.Masks.{clear-true, clear-false, masked-small, NextIs, number-whole, number-short}
 
 -- ---- the numbers of some lengths: the first, and the rest
 need-join : (b : Bool) (xs : List ℕ) (m : Answer (List ℕ)) → need b fault (join xs m) ≡ join xs (need b fault m)
@@ -162,7 +163,7 @@ module _ {body : List ℕ} {at ends : ℕ} {most least out₀ : List ℕ} {to : 
             bytes = drop (f + 1) (so .bytes);
             bound = below-drop 256 (f + 1) (so .bytes) (so .bound);
             within = rw n (first .small);
-            left = rw (so .left) (high-bytes (f + 1) (so .bytes) (so .bound));
+            left = rw (so .left) (number-high (f + 1) (so .bytes) (so .bound));
             taken = so .taken ++ (x ∷ []);
             few = omega (arith, so .few, first .within);
             some = λ h. omega arith;

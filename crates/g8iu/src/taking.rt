@@ -1,9 +1,9 @@
 // Taking the numbers of one block from a body. Nothing is refused here: where a block is at fault no number is taken, and all is as it was.
 use leaves::lesser;
-use leaves::wide;
 use meaning::Offset;
 use meaning::Place;
 use words::eight_at;
+use words::take_eight;
 ghost use mathlib.Core.Path.{_≡_};
 ghost use Prim.Native.Nat.{_+_, _≤_};
 ghost use lib.Dec.{leb};
@@ -38,31 +38,6 @@ fn copy_eight(list: &[u32], from: Place, out: &mut [u32], to: Place)
         out[first + i] = list[source + i];
         i += 1;
     }
-}
-
-// Stores eight bytes as numbers.
-fn take_eight(body: &[u8], at: Offset, out: &mut [u32], to: Place)
-    requires { ⌜ (at .byte + 8 ≤ length (now body)) × (to .number + 8 ≤ length (now out)) ⌝ }
-    ensures { λ _. ⌜ now (out .exit) ≡ sets (now (out .entry)) (to .number) (part (now (body .entry)) (at .byte) 8) ⌝ }
-{
-    let start = at.byte;
-    let first = to.number;
-    let a = wide(body[start]);
-    let b = wide(body[start + 1]);
-    let c = wide(body[start + 2]);
-    let d = wide(body[start + 3]);
-    let e = wide(body[start + 4]);
-    let f = wide(body[start + 5]);
-    let g = wide(body[start + 6]);
-    let h = wide(body[start + 7]);
-    out[first] = a;
-    out[first + 1] = b;
-    out[first + 2] = c;
-    out[first + 3] = d;
-    out[first + 4] = e;
-    out[first + 5] = f;
-    out[first + 6] = g;
-    out[first + 7] = h;
 }
 
 // Takes a block whose ends are given, and answers the place after its numbers, or 0 where it is at fault: some may be stored all the same.

@@ -1,11 +1,11 @@
 -- Numbers in bytes: written, read, and back. Assumes nothing.
 use Prim.Native.Nat.{ℕ, zero, suc, _+_, _*_, _/_, _%_, _^_, _<_}
-use mathlib.Core.Path.{_≡_, refl, ap}
+use mathlib.Core.Path.{_≡_, refl, ap, _∙_}
 use mathlib.Core.List.{List, [], _∷_}
 use native.Mathlib.Nat.{mul-assoc, pow-suc}
 use native.Mathlib.Omega.{arith}
 use lib.ListN.{length, take, drop}
-use lib.Pow.{pow-add}
+use lib.Pow.{pow-pos, pow-add, low, high}
 use Rattle.meaning.specs.Bytes.{bytesOf, numberOf}
 use Rattle.meaning.specs.Places.{Below}
 use Rattle.meaning.proofs.Bounds.{below-nil, below-cons}
@@ -51,3 +51,19 @@ number-split (suc l) [] = omega arith
 number-split (suc l) (b ∷ bs) =
     let e : 8 * suc l ≡ 8 * l + 8 = omega arith in
     rw (e, pow-add 2 (8 * l) 8, ← (mul-assoc (numberOf (drop l bs)) (2 ^ (8 * l)) (2 ^ 8)), number-split l bs) (omega arith)
+
+-- ---- bytes as one number: the first l of them, and the rest
+pub number-few : (l : ℕ) (bs : List ℕ) → Below 256 bs → numberOf (take l bs) < 2 ^ (8 * l)
+unfolding numberOf
+number-few zero bs h = omega arith
+number-few (suc l) [] h = pow-pos (8 * suc l)
+number-few (suc l) (b ∷ bs) h =
+    let e : 8 * suc l ≡ 8 * l + 8 = omega arith in
+    rw (e, pow-add 2 (8 * l) 8) (omega (arith, h 0, number-few l bs (λ i. h (suc i))))
+
+module _ (l : ℕ) (bs : List ℕ) (h : Below 256 bs) where
+  pub number-low : numberOf bs % 2 ^ (8 * l) ≡ numberOf (take l bs)
+  number-low = ap (λ (n : ℕ). n % 2 ^ (8 * l)) (number-split l bs) ∙ low (numberOf (drop l bs)) (8 * l) (number-few l bs h)
+
+  pub number-high : numberOf bs / 2 ^ (8 * l) ≡ numberOf (drop l bs)
+  number-high = ap (λ (n : ℕ). n / 2 ^ (8 * l)) (number-split l bs) ∙ high (numberOf (drop l bs)) (8 * l) (number-few l bs h)

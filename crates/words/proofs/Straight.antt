@@ -1,15 +1,17 @@
--- Numbers of 1 to 4 bytes, byte by byte, as straight-line code reads and puts them. Assumes nothing.
+-- Numbers of 1 to 4 bytes, byte by byte, as straight-line code reads and puts them, and eight numbers stored at once. Assumes nothing.
 use Prim.Native.Nat.{ℕ, suc, _+_, _*_, _/_, _%_, _^_, _≤_, _<_}
 use mathlib.Core.Path.{_≡_, refl, ap, _∙_}
 use mathlib.Core.List.{List}
 use native.Mathlib.Nat.{add-assoc, div-div-eq-div-mul}
-use native.Mathlib.Numerals.{add-one}
+use native.Mathlib.Numerals.{add-one, towards-suc}
 use native.Mathlib.Omega.{arith}
 use lib.ListN.{length, getD, take, drop, set}
 use lib.Seq.{sets, drop-cons}
 use borrow.Author.Tests.{lt-ltb, le-ltb}
 use Rattle.meaning.specs.Bytes.{bytesOf, numberOf, word}
 use Rattle.meaning.specs.DataBytes.{byteLength, fewest}
+use Rattle.meaning.specs.Places.{part}
+use Rattle.leaves.proofs.Parts.{part-each}
 
 -- ---- read
 module _ (s : List ℕ) where
@@ -84,3 +86,12 @@ module _ (out : List ℕ) (at x : ℕ) where
   pub fewest-4 : 16777216 ≤ x → (at + 4 ≡ at + byteLength x) × (put-4 ≡ sets out at (fewest x))
   unfolding fewest byteLength bytesOf
   fewest-4 c = rw (le-ltb x (2 ^ 8) (omega arith), le-ltb x (2 ^ 16) (omega arith), le-ltb x (2 ^ 24) c) (refl, rw (byte-4 x, byte-3 x, three, two, add-one at))
+
+-- ---- the eight elements of a list from an offset on, stored one after another
+pub eight-stored : (list : List ℕ) (from : ℕ) (out : List ℕ) (to : ℕ) {a b c d e f g h : ℕ} → from + 8 ≤ length list
+    → a ≡ getD list from 0 → b ≡ getD list (from + 1) 0 → c ≡ getD list (from + 2) 0 → d ≡ getD list (from + 3) 0
+    → e ≡ getD list (from + 4) 0 → f ≡ getD list (from + 5) 0 → g ≡ getD list (from + 6) 0 → h ≡ getD list (from + 7) 0
+    → set (set (set (set (set (set (set (set out to a) (to + 1) b) (to + 2) c) (to + 3) d) (to + 4) e) (to + 5) f) (to + 6) g) (to + 7) h
+    ≡ sets out to (part list from 8)
+eight-stored list from out to inside ea eb ec ed ee ef eg eh =
+    rw (ea, eb, ec, ed, ee, ef, eg, eh, part-each 8 list from inside) (simp towards-suc refl)

@@ -168,3 +168,28 @@ pub fn put_number(out: &mut [u8], at: Offset, x: usize, bytes: usize)
         i += 1;
     }
 }
+
+// Stores eight bytes as numbers.
+pub fn take_eight(body: &[u8], at: Offset, out: &mut [u32], to: Place)
+    requires { ⌜ (at .byte + 8 ≤ length (now body)) × (to .number + 8 ≤ length (now out)) ⌝ }
+    ensures { λ _. ⌜ now (out .exit) ≡ sets (now (out .entry)) (to .number) (part (now (body .entry)) (at .byte) 8) ⌝ }
+{
+    let start = at.byte;
+    let first = to.number;
+    let a = wide(body[start]);
+    let b = wide(body[start + 1]);
+    let c = wide(body[start + 2]);
+    let d = wide(body[start + 3]);
+    let e = wide(body[start + 4]);
+    let f = wide(body[start + 5]);
+    let g = wide(body[start + 6]);
+    let h = wide(body[start + 7]);
+    out[first] = a;
+    out[first + 1] = b;
+    out[first + 2] = c;
+    out[first + 3] = d;
+    out[first + 4] = e;
+    out[first + 5] = f;
+    out[first + 6] = g;
+    out[first + 7] = h;
+}

@@ -1,10 +1,10 @@
--- `take_eight` reads eight bytes and then stores them (`Eights`). Assumes nothing.
+-- `take_eight` reads eight bytes and then stores them (`Straight`). Assumes nothing.
 use mathlib.Core.Path.{refl}
 use lib.ListN.{length-set}
 use borrow.Author.Needs.{needs}
-use Rattle.g8iu.proofs.Eights.{eight-stored}
-use Rattle.g8iu.proofs.taking.take_eight.Statement.{statement}
-use Rattle.g8iu.proofs.taking.take_eight.Tie as tie
+use Rattle.words.proofs.Straight.{eight-stored}
+use Rattle.words.proofs.take_eight.Statement.{statement}
+use Rattle.words.proofs.take_eight.Tie as tie
 
 returns : tie.Need-returns
 returns c =
