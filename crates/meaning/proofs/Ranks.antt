@@ -81,12 +81,6 @@ one-some e (suc k) (suc c ∷ bits) b h = let (i, q) = one-some e k bits (λ n. 
 pub one-given : (e f k : ℕ) (bits : List ℕ) (i : ℕ) → Below 2 bits → oneAt e k bits ≡ given i → oneAt f k bits ≡ given i
 one-given e f k bits i b q = let o = one-is e k bits i b q in ap (λ (n : ℕ). oneAt f n bits) (sym (o .before)) ∙ one-at f bits i b (o .set)
 
-pub one-refused : (e f k : ℕ) (bits : List ℕ) {r : ℕ} → Below 2 bits → oneAt e k bits ≡ refused r → oneAt f k bits ≡ refused f
-one-refused e f k bits {r} b q =
-    by-order k (sum bits)
-    (λ h. let (i, g) = one-some e k bits b h in absurd (not-given r i (sym q ∙ g)))
-    (λ h. one-none f k bits b h)
-
 -- no more ones than bits
 pub ones-few : (bits : List ℕ) (k : ℕ) → Below 2 bits → onesBefore bits k ≤ k
 unfolding onesBefore sum

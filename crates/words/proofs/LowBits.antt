@@ -122,10 +122,6 @@ pub low-append : (xs ys : List ℕ) → lowBits (xs ++ ys) ≡ lowBits xs ++ low
 unfolding lowBits
 low-append xs ys = joined-append (bitsLow 8) xs ys
 
-pub low-cons : (b : ℕ) (bytes : List ℕ) → lowBits (b ∷ bytes) ≡ bitsLow 8 b ++ lowBits bytes
-unfolding lowBits joined
-low-cons b bytes = refl
-
 -- whole bytes left out, or taken alone
 pub low-drop : (k : ℕ) (bytes : List ℕ) → drop (8 * k) (lowBits bytes) ≡ lowBits (drop k bytes)
 unfolding lowBits joined
@@ -162,16 +158,7 @@ low-get bytes i =
     first (b ∷ bs) r h =
         List·getD-append (bitsLow 8 b) (lowBits bs) 0 r (omega (arith, bits-length 8 b)) ∙ bits-get 8 b r h
 
--- the bits of the number that bytes make
-pub low-number : (bytes : List ℕ) → Below 256 bytes → bitsLow (8 * length bytes) (numberOf bytes) ≡ lowBits bytes
-unfolding lowBits joined numberOf
-low-number [] h = bits-none 0
-low-number (b ∷ bytes) h =
-    let e : 8 * suc (length bytes) ≡ 8 + 8 * length bytes = omega arith in
-    rw e (bits-append 8 (8 * length bytes) b (numberOf bytes) (h 0))
-    ∙ ap (λ (l : List ℕ). bitsLow 8 b ++ l) (low-number bytes (λ i. h (suc i)))
-
--- and, in a wider number, zeros above them
+-- the bits of the number that bytes make; in a wider number, zeros above them
 pub low-zeros : (bytes : List ℕ) (n : ℕ) → Below 256 bytes → bitsLow (8 * length bytes + n) (numberOf bytes) ≡ lowBits bytes ++ replicate n 0
 unfolding lowBits joined numberOf
 low-zeros [] n h = rw (zero-add n) (bits-zero n)
@@ -180,6 +167,10 @@ low-zeros (b ∷ bytes) n h =
     rw e (bits-append 8 (8 * length bytes + n) b (numberOf bytes) (h 0))
     ∙ ap (λ (l : List ℕ). bitsLow 8 b ++ l) (low-zeros bytes n (λ i. h (suc i)))
     ∙ sym (append-assoc (bitsLow 8 b) (lowBits bytes) (replicate n 0))
+
+pub low-number : (bytes : List ℕ) → Below 256 bytes → bitsLow (8 * length bytes) (numberOf bytes) ≡ lowBits bytes
+low-number bytes h =
+    ap (λ (n : ℕ). bitsLow n (numberOf bytes)) (sym (add-zero (8 * length bytes))) ∙ low-zeros bytes 0 h ∙ append-nil (lowBits bytes)
 
 -- ---- bits packed in bytes
 pub pack-length : (n : ℕ) (bits : List ℕ) → length (packLow n bits) ≡ n
