@@ -17,11 +17,12 @@
     6  place not below the count; rank: bit above the number of bits; select: k not below the number of ones
     7  output shorter than the answer, or a written sheet would pass 65,536 bytes
     8  work slice too short
-    9  fault in a body, or a list of kind 1 that does not rise as the sheet's edition means it
+    9  a body cut short: it ends before the unit or header that is read does
    10  writing: a list of kind 1 that does not rise as the edition means it
    11  edition neither 1 nor 2, over 16 orders, kind above 1, count above 1,024, counts not summing to the
        joined slice
    12  board rules broken
+   13  any other fault of a body, also a list of kind 1 that does not rise as the sheet's edition means it
 
    Byte 0 of a sheet is its edition, 1 or 2, and every function that is lent a sheet finds it there.  Kind 0
    is any list, kind 1 a rising one: in edition 1 no number is below the one before, in edition 2 each is
@@ -31,8 +32,9 @@
    suppression and 8 directly addressed, in which a lookup reads no other number and takes the sums that it
    finds as they are; stages 16 reference and 17 differences, each before one plan, and 18 runs before two.
 
-   On a sheet the order is 1; 2; each plan in turn, 3 before 4; 5; 6; 8; 7; 9; 12.  On writing it is 11; each
-   plan in turn, 3 before 4; each list in turn 10; 8; 7.  For rank and select it is 1; 6. */
+   On a sheet the order is 1; 2; each plan in turn, 3 before 4; 5; 6; 8; 7; 9 or 13, whichever the body meets
+   first; 12.  On writing it is 11; each plan in turn, 3 before 4; each list in turn 10; 8; 7.  For rank and select
+   it is 1; 6. */
 
 #ifndef PELLUVION_H
 #define PELLUVION_H

@@ -1,11 +1,12 @@
 """Writes the sample sheets by the independent reading: a night of 208 jobs (job numbers, endings, run times in milliseconds).
 
     night.sheet     edition 1
-    damaged.sheet   the same with a byte of its third column changed
-    cut.sheet       the same without its last byte
+    damaged.sheet   the same with a byte of its third column changed, which the check refuses by 13 in column 2
+    stopped.sheet   the same without the last byte of its third column, and the table says so: a body cut short, 9 in column 2
+    cut.sheet       the same without its last byte, the table as it was: 2
     strict.sheet    the same night in edition 2
     twice.sheet     edition 2, but two neighbouring jobs have the same number: edition 1's sheet of that with byte 0 set to 2,
-                    which the check refuses by 9 in column 0
+                    which the check refuses by 13 in column 0
     direct.sheet    the same night in edition 2 with every list directly addressed (code 8), run times in microseconds: the
                     last column has more than 512 data bytes, so a sum
 
@@ -56,6 +57,12 @@ def changed(sheet, at, value):
     return bytes(made)
 
 
+def stopped(sheet):
+    """A sheet without its last byte, its third and last column's length less by one."""
+    at = 2 + 2 * reading.entry_size(sheet[0]) + 20
+    return sheet[:at] + reading.u32(reading.fetch(sheet, 2)[1] - 1) + sheet[at + 4:-1]
+
+
 def store(name, data):
     with open(os.path.join(HERE, name + ".sheet"), "wb") as file:
         file.write(data)
@@ -66,6 +73,7 @@ def main():
     sheet = written(1, jobs, endings, times)
     store("night", sheet)
     store("damaged", changed(sheet, -1, 0))
+    store("stopped", stopped(sheet))
     store("cut", sheet[:-1])
     store("strict", written(2, jobs, endings, times))
     store("direct", written(2, jobs, endings, [1000 * time for time in times], DIRECT))

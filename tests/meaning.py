@@ -11,6 +11,7 @@ import subprocess
 import sys
 
 import reading as R
+from examples import SORTS
 
 ROOT = os.path.join(os.path.dirname(os.path.abspath(__file__)), "..")
 PLACE = os.path.join(ROOT, "target", "meaning-cases")
@@ -18,6 +19,8 @@ CASES = int(sys.argv[1]) if len(sys.argv) > 1 else 600
 RANDOM = random.Random(int(sys.argv[2]) if len(sys.argv) > 2 else 1)
 LARGEST = 2 ** 32 - 1
 OTHER_EDITIONS = (0, 3, 255)
+SHAPES = [[0]] * 8 + [[16, 0], [17, 0], [18, 0, 0], [17, 16, 0], [16, 17, 0], [17, 18, 0, 0], [18, 17, 0, 0], [18, 16, 0, 0], [18, 0, 16, 0],
+                       [18, 0, 18, 0, 0], [18, 18, 0, 0, 0], [17, 18, 16, 0, 0], [17, 16, 18, 0, 0], [17, 18, 0, 18, 0, 0]]     # 0: any code
 equations = []
 
 
@@ -145,6 +148,59 @@ def case_sums():
         at, places = 4 + R.up(size * n, 8), {of_stretch - 1, min(of_stretch, n - 1), n - 1}
         for first_sum in of_stretch, of_stretch - 1, 2 * of_stretch + 1:
             direct(body[:at] + first_sum.to_bytes(2, "little") + body[at + 2:], n, places)
+
+
+def spoilt(tree, xs):
+    """The body of a list by a plan of which any part, at any depth, may be cut or broken, or both."""
+    if tree[0] in R.CODES:
+        body = R.write_code(tree[0], xs)
+        body = damaged(body) if RANDOM.random() < 0.4 else body
+    elif tree[0] == R.REFERENCE:
+        least = min(xs, default=0)
+        body = R.u32(RANDOM.choice([least, least, 0, LARGEST])) + spoilt(tree[1], [x - least for x in xs])
+    elif tree[0] == R.DIFFERENCES:
+        steps = [x - before for before, x in zip([0] + xs, xs)]
+        body = spoilt(tree[1], [RANDOM.choice([x, x, x, LARGEST]) for x in steps])
+    else:
+        runs = [(x, xs.count(x)) for x in dict.fromkeys(xs)]
+        values, lengths = [x for x, _ in runs], [RANDOM.choice([length] * 6 + [0, length + 1]) for _, length in runs]
+        values_body, told = spoilt(tree[1], values), RANDOM.choice([len(runs)] * 8 + [0, len(xs) + 1])
+        size = max(0, len(values_body) + RANDOM.choice([0] * 10 + [-1, 1]))
+        body = R.u32(told) + R.u32(size) + values_body + spoilt(tree[2], lengths)
+    return body[:RANDOM.randrange(len(body) + 1)] if RANDOM.random() < 0.2 else body
+
+
+def spoilt_column():
+    """A kind, a plan, its tree, a count and a body."""
+    stages = [x or RANDOM.choice(R.CODES) for x in RANDOM.choice(SHAPES)]
+    kind, n = int(17 in stages or RANDOM.random() < 0.3), RANDOM.randint(0, 5)
+    xs = sorted(RANDOM.choice([0, 1, 5, 5, 300, number()]) for _ in range(n))
+    tree = R.parse_plan(fill(stages))
+    return kind, fill(stages), tree, n, spoilt(tree, xs)
+
+
+def case_spoilt():
+    """Which sort of fault: bodies cut and broken at once, read and looked up at every place; or sheets of them, their table true."""
+    if RANDOM.random() < 0.7:
+        _, bytes_of_plan, tree, n, body = spoilt_column()
+        in_full("(planOf %s)" % listed(bytes_of_plan), tree, body, n)
+        return
+    columns = [spoilt_column() for _ in range(RANDOM.randint(1, 2))]
+    table = b"".join(bytes([kind]) + p + R.u32(n) + R.u32(len(body)) for kind, p, _, n, body in columns)
+    sheet = bytes([RANDOM.choice(R.EDITIONS), len(columns)]) + table + b"".join(column[4] for column in columns)
+    asked(sheet, 40, RANDOM.randrange(len(columns)), RANDOM.randint(0, 4), RANDOM.randint(0, 4), room=5)
+    programs(sheet)
+
+
+def case_sorts():
+    """The examples of both sorts, and bodies by each code cut at every byte."""
+    for stages, text_of_body, n, _, _ in SORTS:
+        in_full("(planOf %s)" % listed(fill(stages)), R.parse_plan(fill(stages)), bytes.fromhex(text_of_body), n)
+    for code in R.CODES:
+        whole = R.write_code(code, [300, 0, LARGEST] if code != R.GAMMA else [300, 0, 65535])
+        for end in range(len(whole) + 1):
+            in_full("(code %d)" % code, (code,), whole[:end], 3, {0, 2})
+        in_full("(code %d)" % code, (code,), whole + b"\0", 3, {2})
 
 
 def case_bits():
@@ -293,7 +349,10 @@ def case_programs():
 def text():
     names = {}
     for path in sorted(glob.glob(os.path.join(ROOT, "crates/meaning/specs/*.antt"))):
-        found = re.findall(r"^\s*unfoldable pub (\S+) :", open(path).read(), re.M)
+        given = open(path).read()
+        found = re.findall(r"^\s*unfoldable pub (\S+) :", given, re.M)
+        for together in re.findall(r"^unfoldable mutual\n((?:\n|  .*\n)*)", given, re.M):     # definitions that call each other
+            found += re.findall(r"^  pub (\S+) :", together, re.M)
         if found:
             names[os.path.basename(path)[:-5]] = found
     lines = ["use Prim.Native.Nat.{ℕ}", "use mathlib.Core.Path.{_≡_, refl}", "use mathlib.Core.List.{List, [], _∷_}",
@@ -310,6 +369,9 @@ def main():
         [case_code, case_judge, case_plan, case_write, case_sheet][i % 5]()
     for _ in range(CASES // 20):
         case_bits()
+    for _ in range(CASES // 4):
+        case_spoilt()
+    case_sorts()
     case_direct()
     case_sums()
     case_editions()

@@ -1,7 +1,7 @@
 """A plain reading of the sheet document (01-scope.md), written from its text alone, with
-requests P1, P2, P3 and P4 (02-change-requests.md): code 7, four-wise null suppression; 124 is a
-kill; edition 2, in which kind 1 means each number above the one before; code 8, the directly
-addressed list, with rank and select.
+requests P1 to P5 (02-change-requests.md): code 7, four-wise null suppression; 124 is a kill;
+edition 2, in which kind 1 means each number above the one before; code 8, the directly addressed
+list, with rank and select; 9 for a body cut short, 13 for any other body fault.
 
 It shares nothing with the proved code and is there to be compared with it.  Where the
 document leaves room, "Decisions on open questions" 1 to 13 hold and are named in comments.
@@ -26,10 +26,15 @@ class Refused(Exception):
         Exception.__init__(self, number, column)
         self.number, self.column = number, column
 
-def fault_if(condition):
-    """9: a fault in a body."""
+def cut_if(condition):
+    """9: the body ends before the unit or header does."""
     if condition:
         raise Refused(9)
+
+def broken_if(condition):
+    """13: any other body fault."""
+    if condition:
+        raise Refused(13)
 
 def up(a, b):
     """a / b rounded up."""
@@ -41,12 +46,12 @@ def u32(x):
 
 def header(body, offset):
     """The 4-byte number at an offset; headers must fit the body."""
-    fault_if(offset + 4 > len(body))
+    cut_if(offset + 4 > len(body))
     return int.from_bytes(body[offset:offset + 4], "little")
 
 def held(total):
     """A sum above 2^32 - 1 is a fault."""
-    fault_if(total > MOST_NUMBER)
+    broken_if(total > MOST_NUMBER)
     return total
 
 def fewest(x):
@@ -165,7 +170,8 @@ def write_code(code, numbers):
 
 # ------------------------------------------------------------ codes: reading units
 #
-# Reading one unit answers with its numbers and where the next unit begins, or the refusal.
+# Reading one unit answers with its numbers and where the next unit begins, or the refusal: first
+# that it is there (9), then its rules (13).
 # `at` is where it begins: an offset; a bit of the body in gamma and delta; a control and a
 # data offset in Stream VByte.  `left`, at least 1, is how many numbers of the list are in
 # this unit and after it.  Code 8 has no such walk: its parts are below.
@@ -173,28 +179,35 @@ def write_code(code, numbers):
 def unit_vbyte(body, at, left):
     x = 0
     for i in range(5):                                  # at most 5 bytes; the fifth is the last
-        fault_if(at + i >= len(body))
+        cut_if(at + i >= len(body))
         byte = body[at + i]
-        fault_if(i == 4 and byte > 15)                  # the fifth at most 15
+        broken_if(i == 4 and byte > 15)                 # the fifth at most 15, once met
         x += (byte % 128) << (7 * i)
         if byte < 128:
-            fault_if(byte == 0 and i > 0)               # the last not 0 unless alone
+            broken_if(byte == 0 and i > 0)              # the last not 0 unless alone
             return [x], at + i + 1
+
+def fields(controls):
+    """The four fields of each control byte, field i in bits 2i and 2i+1."""
+    return [(control >> (2 * i)) & 3 for control in controls for i in range(4)]
+
+def of_lengths(body, at, lengths):
+    """Numbers of so many bytes each from an offset, all of them there before one is asked to be
+    the fewest; and the offset after them."""
+    cut_if(at + sum(lengths) > len(body))
+    numbers = []
+    for length in lengths:
+        numbers.append(int.from_bytes(body[at:at + length], "little"))
+        at += length
+    broken_if([fewest(x) for x in numbers] != lengths)
+    return numbers, at
 
 def unit_stream(body, at, left):
     control_at, data_at = at
-    fault_if(control_at >= len(body))
-    numbers = []
-    for i in range(4):
-        length = ((body[control_at] >> (2 * i)) & 3) + 1
-        if i < left:
-            data = body[data_at:data_at + length]
-            x = int.from_bytes(data, "little")
-            fault_if(len(data) < length or fewest(x) != length)
-            numbers.append(x)
-            data_at += length
-        else:
-            fault_if(length != 1)                       # unused fields are 0, no data
+    cut_if(control_at >= len(body))
+    told = fields(body[control_at:control_at + 1])
+    numbers, data_at = of_lengths(body, data_at, [field + 1 for field in told[:left]])
+    broken_if(any(told[left:]))                         # unused fields are 0, no data
     return numbers, (control_at + 1, data_at)
 
 def unit_group(body, at, left):
@@ -206,44 +219,34 @@ def unit_batch(body, at, left):
     """A four-wise batch: its masks, then its up to 16 numbers."""
     many = min(left, 16)
     data_at = at + up(many, 4)
-    masks = body[at:data_at]
-    fault_if(len(masks) < up(many, 4))
-    numbers = []
-    for i in range(4 * len(masks)):
-        zeros = (masks[i // 4] >> (2 * (i % 4))) & 3    # the number's leading zero bytes
-        if i < many:
-            data = body[data_at:data_at + 4 - zeros]
-            x = int.from_bytes(data, "little")
-            fault_if(len(data) < 4 - zeros or fewest(x) != 4 - zeros)
-            numbers.append(x)
-            data_at += 4 - zeros
-        else:
-            fault_if(zeros != 0)                        # unused fields are 0, no data
-    return numbers, data_at
+    cut_if(data_at > len(body))
+    zeros = fields(body[at:data_at])                    # each number's leading zero bytes
+    numbers, after = of_lengths(body, data_at, [4 - field for field in zeros[:many]])
+    broken_if(any(zeros[many:]))                        # unused fields are 0, no data
+    return numbers, after
 
 def unit_block(body, at, left):
     """A G8IU block by its own rules."""
-    block = body[at:at + 9]
-    fault_if(len(block) < 9)
-    control, data = block[0], block[1:]
+    cut_if(at + 9 > len(body))
+    control, data = body[at], body[at + 1:at + 9]
     numbers, begin = [], 0
     for i in range(8):
         if (control >> i) & 1 == 0:                     # data byte i ends a number
             x, length = int.from_bytes(data[begin:i + 1], "little"), i + 1 - begin
-            fault_if(length > 4 or fewest(x) != length)     # 1 to 4 bytes, fewest possible
+            broken_if(length > 4 or fewest(x) != length)    # 1 to 4 bytes, fewest possible
             numbers.append(x)
             begin = i + 1
     waste = data[begin:]                                # ones above the last zero
-    fault_if(any(waste))                                # waste bytes are 0
-    fault_if(len(numbers) < 1)                          # at least one
-    fault_if(len(numbers) > left)                       # no number beyond the list
-    fault_if(len(waste) > 3 and len(numbers) != left)   # unless the list ends there
+    broken_if(any(waste))                               # waste bytes are 0
+    broken_if(len(numbers) < 1)                         # at least one
+    broken_if(len(numbers) > left)                      # no number beyond the list
+    broken_if(len(waste) > 3 and len(numbers) != left)  # unless the list ends there
     return numbers, at + 9
 
 def bits_at(body, at, many):
     """So many bits of the body from bit `at`, highest bit of each byte first, as a number."""
     end = at + many
-    fault_if(end > 8 * len(body))
+    cut_if(end > 8 * len(body))
     whole = int.from_bytes(body[at // 8:up(end, 8)], "big")     # the bytes that hold them
     return (whole >> (-end % 8)) % 2**many
 
@@ -252,9 +255,9 @@ def gamma_at(body, at, most):
     z = 0
     while bits_at(body, at + z, 1) == 0:
         z += 1
-        fault_if(2**z > most)
+        broken_if(2**z > most)                          # a 33rd zero, in delta a sixth, once met
     v = bits_at(body, at + z, z + 1)
-    fault_if(v > most)
+    broken_if(v > most)
     return v, at + z + z + 1
 
 def unit_gamma(body, at, left):
@@ -264,7 +267,7 @@ def unit_gamma(body, at, left):
 def unit_delta(body, at, left):
     length, at = gamma_at(body, at, 33)                 # the bit length of 2^32 is 33
     v = 2**(length - 1) + bits_at(body, at, length - 1)
-    fault_if(v > 2**32)
+    broken_if(v > 2**32)
     return [v - 1], at + length - 1
 
 UNIT = {VBYTE: unit_vbyte, GROUPS: unit_group, G8IU: unit_block,
@@ -274,7 +277,7 @@ def first_unit(code, body, n):
     """Where the first unit begins.  Stream VByte's control bytes must fit the body."""
     if code != STREAM:
         return 0
-    fault_if(up(n, 4) > len(body))
+    cut_if(up(n, 4) > len(body))
     return 0, up(n, 4)
 
 def units(code, body, n):
@@ -292,7 +295,7 @@ def direct_parts(body):
     many = header(body, 0)
     sums_at = 4 + up(many, 8)
     data_at = sums_at + 2 * (many // STRETCH)
-    fault_if(data_at + many > len(body))
+    cut_if(data_at + many > len(body))
     all_bits = bits_of(body[4:sums_at])
     bits, spare = all_bits[:many], all_bits[many:]
     sums = [int.from_bytes(body[at:at + 2], "little") for at in range(sums_at, data_at, 2)]
@@ -303,23 +306,23 @@ def direct_parts(body):
 def direct_number(data):
     """The number of a run of bytes: 1 to 4, the fewest."""
     x = int.from_bytes(data, "little")
-    fault_if(len(data) > 4 or fewest(x) != len(data))
+    broken_if(len(data) > 4 or fewest(x) != len(data))
     return x
 
 def read_direct(body, n):
     """The list of a directly addressed body, by all the rules."""
     bits, spare, sums, data, left_over, _ = direct_parts(body)
-    fault_if(sum(bits) != n)                            # as many ones as the count
-    fault_if(len(bits) > 0 and bits[-1] != 1)           # the last data byte ends a number
-    fault_if(any(spare))                                # spare bits are 0
+    broken_if(sum(bits) != n)                           # as many ones as the count
+    broken_if(len(bits) > 0 and bits[-1] != 1)          # the last data byte ends a number
+    broken_if(any(spare))                               # spare bits are 0
     for i, told in enumerate(sums):                     # a false sum is a fault
-        fault_if(told != sum(bits[:STRETCH * (i + 1)]))
+        broken_if(told != sum(bits[:STRETCH * (i + 1)]))
     numbers, begin = [], 0
     for i, bit in enumerate(bits):
         if bit == 1:
             numbers.append(direct_number(data[begin:i + 1]))
             begin = i + 1
-    fault_if(len(left_over) > 0)                        # the body fills its length exactly
+    broken_if(len(left_over) > 0)                       # the body fills its length exactly
     return numbers
 
 def lookup_direct(parts, place):
@@ -330,11 +333,11 @@ def lookup_direct(parts, place):
     while stretch < len(sums) and sums[stretch] <= place:       # the first whose sum is above
         base = sums[stretch]
         stretch += 1                                    # else the bits after the last sum
-    fault_if(place - base >= len(ends[stretch]))        # the stretch lacks that end bit
+    broken_if(place - base >= len(ends[stretch]))       # the stretch lacks that end bit
     end = begin = ends[stretch][place - base]
     while begin > 0 and bits[begin - 1] == 0:           # back to the end of the number before
         begin -= 1
-        fault_if(end - begin == 4)                      # a run of more than 4 bytes
+        broken_if(end - begin == 4)                     # a run of more than 4 bytes
     return direct_number(data[begin:end + 1])
 
 def read_code(code, body, n):
@@ -343,16 +346,15 @@ def read_code(code, body, n):
         return read_direct(body, n)
     at, taken = first_unit(code, body, n), []
     for numbers, at in units(code, body, n):
+        if code == G8IU and taken:      # A block takes the next number whenever it fits.
+            broken_if(sum(fewest(x) for x in taken[-1]) + fewest(numbers[0]) <= 8)
         taken.append(numbers)
     # Each body fills its length exactly.
     if code in (GAMMA, DELTA):
-        fault_if(up(at, 8) != len(body))
-        fault_if(bits_at(body, at, 8 * len(body) - at) != 0)        # spare bits are 0
+        broken_if(up(at, 8) != len(body))
+        broken_if(bits_at(body, at, 8 * len(body) - at) != 0)       # spare bits are 0
     else:
-        fault_if((at[1] if code == STREAM else at) != len(body))
-    if code == G8IU:            # A block takes the next number whenever it fits.
-        for block, after in zip(taken, taken[1:]):
-            fault_if(sum(fewest(x) for x in block) + fewest(after[0]) <= 8)
+        broken_if((at[1] if code == STREAM else at) != len(body))
     return [x for numbers in taken for x in numbers]
 
 def lookup_code(code, body, n, place):
@@ -444,10 +446,12 @@ def write_plan(tree, numbers):
     return u32(len(runs)) + u32(len(values_body)) + values_body + lengths_body
 
 def run_parts(body, n):
-    """A run stage's run count, values body and lengths body."""
+    """A run stage's run count, values body and lengths body, after its header, the run count and
+    the values length, in this order."""
+    cut_if(len(body) < 8)                   # one header of 8 bytes
     runs, length = header(body, 0), header(body, 4)
-    fault_if(runs > n)                      # a run count above the count
-    fault_if(8 + length > len(body))        # the values body must fit
+    broken_if(runs > n)                     # a run count above the count
+    cut_if(8 + length > len(body))          # the values body must fit
     return runs, body[8:8 + length], body[8 + length:]
 
 def read_plan(tree, body, n):
@@ -455,67 +459,94 @@ def read_plan(tree, body, n):
     what = tree[0]
     if what in CODES:
         return read_code(what, body, n)
-    if what == REFERENCE:
+    if what == REFERENCE:                               # the whole inner body first
         least = header(body, 0)
         numbers = [held(least + x) for x in read_plan(tree[1], body[4:], n)]
-        fault_if(least != min(numbers, default=0))      # decision 5: 0 for an empty list
+        broken_if(least != min(numbers, default=0))     # decision 5: 0 for an empty list
         return numbers
-    if what == DIFFERENCES:
+    if what == DIFFERENCES:                             # likewise
         return [held(total) for total in accumulate(read_plan(tree[1], body, n))]
     runs, values_body, lengths_body = run_parts(body, n)
     values = read_plan(tree[1], values_body, runs)
     lengths = read_plan(tree[2], lengths_body, runs)
-    fault_if(any(length < 1 for length in lengths))             # lengths at least 1
-    fault_if(any(a == b for a, b in zip(values, values[1:])))   # neighbours differ
-    fault_if(sum(lengths) != n)                                 # lengths sum to the count
+    broken_if(any(length < 1 for length in lengths))            # lengths at least 1
+    broken_if(any(a == b for a, b in zip(values, values[1:])))  # neighbours differ
+    broken_if(sum(lengths) != n)                                # lengths sum to the count
     return [x for x, length in zip(values, lengths) for _ in range(length)]
 
-def or_none(f, *args):
-    """The answer of f, or None for a fault that is one place's alone."""
-    try:
-        return f(*args)
-    except Refused:
-        return None
-
-def asked(x):
-    """What a lookup asks a place for: the place must not be at fault."""
-    fault_if(x is None)
-    return x
+# ------------------------------------------------------------ plans: looking one number up
+#
+# A header is looked at when a number of its body is asked for, and nothing after the unit that
+# holds the place.  Stage 17 stands neither in lengths nor below another (judging by kind).
 
 def in_turn(tree, body, n):
-    """What lookups find at places 0, 1, 2 and so on, in turn, up to the first fault in a unit,
-    a header or a run, from which on every place is at fault; nothing after the unit that holds
-    the place has then been looked at.  In code 8 a place may be at fault alone: that is None.
-    Sums above 2^32 - 1 are handed on as they are: every sum they enter is above it too, and
-    the lookup that asks for one refuses it (decision 8: only at the place asked)."""
+    """What lookups find at places 0, 1, 2 and so on of a list of any kind, one after the other."""
     what = tree[0]
     if what == DIRECT:                              # place by place
         parts = direct_parts(body)
-        yield from (or_none(lookup_direct, parts, place) for place in range(n))
+        yield from (lookup_direct(parts, place) for place in range(n))
     elif what in CODES:
         for numbers, _ in units(what, body, n):
             yield from numbers
     elif what == REFERENCE:                         # reference adds
         least = header(body, 0)
-        yield from (None if x is None else least + x for x in in_turn(tree[1], body[4:], n))
-    elif what == DIFFERENCES:                       # differences add up the inner places
-        yield from accumulate(map(asked, in_turn(tree[1], body, n)))
-    else:                                           # runs add inner lengths
+        yield from (held(least + x) for x in in_turn(tree[1], body[4:], n))
+    else:                                           # each length, then its value
         runs, values_body, lengths_body = run_parts(body, n)
-        values, total = in_turn(tree[1], values_body, runs), 0
-        for length in map(asked, in_turn(tree[2], lengths_body, runs)):
-            total += length
-            fault_if(length == 0 or total > n)      # a zero length, a sum above the count
+        values = in_turn(tree[1], values_body, runs)
+        for length in lengths_in_turn(tree[2], lengths_body, runs, n):
             yield from length * [next(values)]
-        fault_if(total < n)                         # runs that end too soon
+
+def lengths_in_turn(tree, body, runs, n):
+    """The lengths of the runs of n numbers, each with its rules before the next."""
+    lengths, total = in_turn(tree, body, runs), 0
+    for _ in range(runs):                           # of no runs the lengths are not opened
+        length = next(lengths)
+        total += length
+        broken_if(length == 0 or total > n)         # a zero length, a sum above the count
+        yield length
+    raise Refused(13)                               # runs that end too soon: one more is asked for
+
+def lengths_past(tree, body, runs, n, place):
+    """The inner lengths until they pass the place."""
+    taken, total = [], 0
+    for length in lengths_in_turn(tree, body, runs, n):
+        taken.append(length)
+        total += length
+        if total > place:
+            return taken
+
+def through(tree, body, n, place):
+    """What differences add up, the numbers from the first through the place: all units through
+    the place first (of runs all lengths, then the values through the last run), then the sums."""
+    what = tree[0]
+    if what in CODES:                               # code 8 place by place
+        return list(islice(in_turn(tree, body, n), place + 1))
+    if what == REFERENCE:
+        least = header(body, 0)
+        return [held(least + x) for x in through(tree[1], body[4:], n, place)]
+    runs, values_body, lengths_body = run_parts(body, n)
+    lengths = lengths_past(tree[2], lengths_body, runs, n, place)
+    values = through(tree[1], values_body, runs, len(lengths) - 1)
+    return [x for x, length in zip(values, lengths) for _ in range(length)][:place + 1]
 
 def lookup_plan(tree, body, n, place):
     """The number at a place of a body of n numbers by a plan."""
     if place >= n:
         raise Refused(6)
-    if tree[0] == DIRECT:                           # nothing before it is asked
+    what = tree[0]
+    if what == DIRECT:                              # nothing before it is asked
         return lookup_direct(direct_parts(body), place)
-    return held(asked(next(islice(in_turn(tree, body, n), place, None))))
+    if what in CODES:
+        return next(islice(in_turn(tree, body, n), place, None))
+    if what == REFERENCE:                           # decision 8: a sum only at the place asked
+        least = header(body, 0)
+        return held(least + lookup_plan(tree[1], body[4:], n, place))
+    if what == DIFFERENCES:                         # differences add up the inner places
+        return held(sum(through(tree[1], body, n, place)))
+    runs, values_body, lengths_body = run_parts(body, n)
+    lengths = lengths_past(tree[2], lengths_body, runs, n, place)
+    return lookup_plan(tree[1], values_body, runs, len(lengths) - 1)
 
 # ------------------------------------------------------------ the sheet
 
@@ -592,11 +623,11 @@ def column_list(sheet, column):
     (decision 9: tested last, and of the column's list alone)."""
     kind, _, tree, count, offset, length = column
     numbers = read_plan(tree, sheet[offset:offset + length], count)
-    fault_if(not of_kind(sheet[0], kind, numbers))
+    broken_if(not of_kind(sheet[0], kind, numbers))
     return numbers
 
 def read(sheet, column, work_len, out_len):
-    """The column's list.  Refuses 1 to 5; 8; 7; 9."""
+    """The column's list.  Refuses 1 to 5; 8; 7; 9 or 13."""
     found = column_at(sheet, column)
     if work_len < 7 * found[3]:
         raise Refused(8)
@@ -605,7 +636,7 @@ def read(sheet, column, work_len, out_len):
     return column_list(sheet, found)
 
 def checked(sheet, work_len):
-    """All columns and their lists.  Refuses 1 to 4; 8; the columns in turn for 9."""
+    """All columns and their lists.  Refuses 1 to 4; 8; the columns in turn for 9 or 13."""
     columns, lists = columns_of(sheet, naming=True), []
     if work_len < 8 * max([column[3] for column in columns], default=0):
         raise Refused(8)
@@ -620,7 +651,7 @@ def check(sheet, work_len):
     checked(sheet, work_len)
 
 def lookup(sheet, column, place):
-    """Refuses 1 to 6; 9."""
+    """Refuses 1 to 6; 9 or 13."""
     _, _, tree, count, offset, length = column_at(sheet, column)
     return lookup_plan(tree, sheet[offset:offset + length], count, place)
 

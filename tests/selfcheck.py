@@ -1,6 +1,7 @@
 """Random self-consistency of the reading: what is written is read back, what is read is written
 back byte for byte, lookups agree with reading, sizes keep to the worst size, also on damage, all of
-it in both editions; and the laws of rank and select.
+it in both editions; the laws of rank and select; and which sort a body fault is (request P5): the
+parts of any body, cut at each byte in turn, are 9 up to where it is decided, and never again after.
 
     python3 selfcheck.py [rounds] [seed]
 
@@ -23,9 +24,10 @@ ENOUGH = 5000               # rounds that are sure to meet what must be met
 MUST_MEET = {"%s in edition %d" % case for case in product(
     ("written", "refused 10: it falls", "sheet passed", "board", "board refused 12",
      "damaged sheet passed", "damaged sheet refused 1", "damaged sheet refused 2",
-     "damaged sheet refused 3", "damaged sheet refused 4", "damaged sheet refused 9"), r.EDITIONS)}
+     "damaged sheet refused 3", "damaged sheet refused 4", "damaged sheet refused 9",
+     "damaged sheet refused 13", "a fall alone is 13"), r.EDITIONS)}
 MUST_MEET |= {"equal neighbours written in edition 1", "refused 10: equal neighbours in edition 2",
-              "edition 1 as 2: refused 9", "edition 1 as 2: passed", "edition 2 as 1: passed",
+              "edition 1 as 2: refused 13", "edition 1 as 2: passed", "edition 2 as 1: passed",
               "written in another edition: 11", "damaged sheet refused 1 in another edition"}
 DIRECT_WAYS = ("false sum", "falling sums", "bit turned", "end moved", "spare bit", "longer", "five bytes",
                "another length told", "cut", "left over")
@@ -33,6 +35,16 @@ MUST_MEET |= {"direct bodies with " + way for way in DIRECT_WAYS}
 MUST_MEET |= {"direct lists of full stretches", "direct lists with bits after a sum",
               "direct lookups sent to another number", "direct lookups refused", "direct lookups unchanged",
               "direct places at fault alone under 16", "direct places at fault alone under 18"}
+CUT, BROKEN = SORTS = ("refused", 9), ("refused", 13)
+STAGES = (r.REFERENCE, r.DIFFERENCES, r.RUNS)
+MUST_MEET |= {"%s first, %s: %d" % case for case in product(r.CODES + STAGES, ("read", "looked up"), (9, 13))}
+MUST_MEET |= {"%d first, 9 until it is %s" % case for case in product(r.CODES + STAGES, ("read", "13"))}
+MUST_MEET |= {"%d first, looked up 9 until it is %s" % case for case in product(r.CODES + STAGES, ("a number", "13"))}
+MUST_MEET |= {"unit broken: %d %s" % case for case in (
+    (1, "last byte 0"), (1, "fifth byte"), (2, "longer"), (2, "unused field"), (3, "waste"), (3, "no number"), (3, "longer"),
+    (4, "longer"), (4, "unused field"), (5, "zeros"), (5, "too large"), (6, "zeros"), (6, "length"), (6, "too large"),
+    (7, "longer"), (7, "unused field"))}
+MUST_MEET |= {"values %s, lengths %s under %d" % case for case in product((0, 9, 13), (0, 9, 13), STAGES)}
 differ = 0
 seen = {}
 
@@ -229,7 +241,7 @@ def standing(body, place):
     stretch, and the number's first and last data byte."""
     many = r.header(body, 0)
     sums_at, full = 4 + (many + 7) // 8, many // 512
-    r.fault_if(sums_at + 2 * full + many > len(body))
+    r.cut_if(sums_at + 2 * full + many > len(body))
     flags = body[4:sums_at]
     sums = [body[sums_at + 2 * i] + 256 * body[sums_at + 2 * i + 1] for i in range(full)]
     stretch = min([i for i, told in enumerate(sums) if told > place], default=full)
@@ -237,11 +249,11 @@ def standing(body, place):
     try:
         end = r.select(flags, r.rank(flags, 512 * stretch) + place - base)
     except r.Refused:
-        raise r.Refused(9)
-    r.fault_if(end >= min(512 * stretch + 512, many))
+        raise r.Refused(13)
+    r.broken_if(end >= min(512 * stretch + 512, many))
     before = r.rank(flags, end)
     begin = r.select(flags, before - 1) + 1 if before else 0
-    r.fault_if(end - begin > 3)
+    r.broken_if(end - begin > 3)
     return stretch, begin, end
 
 
@@ -251,7 +263,7 @@ def literal_direct(body, place):
     many = r.header(body, 0)
     data = body[4 + (many + 7) // 8 + 2 * (many // 512):]
     x = sum(byte << (8 * i) for i, byte in enumerate(data[begin:end + 1]))
-    r.fault_if(begin < end and x < 256**(end - begin))
+    r.broken_if(begin < end and x < 256**(end - begin))
     return x
 
 
@@ -283,19 +295,50 @@ def literal(tree, body, n, place):
     if tree[0] == r.REFERENCE:
         return r.held(r.header(body, 0) + literal(tree[1], body[4:], n, place))
     if tree[0] == r.DIFFERENCES:
+        literal_units(tree[1], body, n, place)
         total = 0
         for inner_place in range(place + 1):
-            total = r.held(total + literal(tree[1], body, n, inner_place))
-        return total
+            total += of_sums(tree[1], body, n, inner_place)
+        return r.held(total)
+    runs, values_body, run = literal_run(tree, body, n, place)
+    return literal(tree[1], values_body, runs, run)
+
+
+def literal_run(tree, body, n, place):
+    """The run that holds a place, each inner length asked for alone and held to its rules."""
     runs, values_body, lengths_body = r.run_parts(body, n)
     total = 0
     for run in range(runs):
         length = literal(tree[2], lengths_body, runs, run)
         total += length
-        r.fault_if(length == 0 or total > n)
+        r.broken_if(length == 0 or total > n)
         if total > place:
-            return literal(tree[1], values_body, runs, run)
-    raise r.Refused(9)
+            return runs, values_body, run
+    raise r.Refused(13)
+
+
+def literal_units(tree, body, n, place):
+    """What differences take before they add: all headers, lengths and units through the place, and no sum."""
+    if tree[0] == r.DIRECT:
+        for each in range(place + 1):
+            literal_direct(body, each)
+    elif tree[0] in r.CODES:
+        literal(tree, body, n, place)
+    elif tree[0] == r.REFERENCE:
+        r.header(body, 0)
+        literal_units(tree[1], body[4:], n, place)
+    else:
+        runs, values_body, run = literal_run(tree, body, n, place)
+        literal_units(tree[1], values_body, runs, run)
+
+
+def of_sums(tree, body, n, place):
+    """A lookup of which only a sum may still refuse."""
+    try:
+        return literal(tree, body, n, place)
+    except r.Refused as e:
+        same("only sums are left", e.number, 13, tree, body, n, place)
+        raise
 
 
 def places(n):
@@ -304,26 +347,33 @@ def places(n):
 
 
 def lookups(tree, body, n, numbers):
-    """Lookups at places; numbers is the list, or None when reading refuses."""
+    """Lookups at places; numbers is the list, or what reading refuses by."""
+    read = isinstance(numbers, list)
     for place in places(n):
         got = of(r.lookup_plan, tree, body, n, place)
-        if numbers is not None:
+        if read:
             same("lookup", got, numbers[place], tree, body, n, place)
-        elif got != ("refused", 9):
+        elif got not in SORTS:
             count("lookups answered where reading refuses")
             same("lookup is a number", isinstance(got, int) and 0 <= got <= MAX, True, tree, body)
+        elif tree[0] in r.CODES and tree[0] not in (r.G8IU, r.DIRECT):      # both meet the first unit at fault first
+            same("lookup refuses as reading", got, numbers, tree, body, n, place)
+        if got in SORTS:
+            count("%d first, looked up: %d" % (tree[0], got[1]))
         if n <= 6 or (n <= 12 and rnd.random() < 0.2):
             same("literal lookup", got, of(literal, tree, body, n, place), tree, body, n, place)
-        if got != ("refused", 9):       # nothing after is looked at
+        if got != CUT:                  # nothing after is looked at
             more = body + bytes(rnd.randrange(256) for _ in range(3))
             same("lookup, more after", of(r.lookup_plan, tree, more, n, place), got, tree, body, n)
+        if got not in SORTS:
             if tree[0] == r.DIRECT:
                 count("direct lookups unchanged")
                 same("lookup, changed elsewhere", of(r.lookup_plan, tree, elsewhere(body, place), n, place), got,
                      body, n, place)
             elif tree[0] in r.CODES:
-                same("lookup, cut after", of(r.lookup_plan, tree, cut_after(tree[0], body, n, place),
-                                             n, place), got, tree, body, n, place)
+                part = cut_after(tree[0], body, n, place)
+                same("lookup, cut after", of(r.lookup_plan, tree, part, n, place), got, tree, body, n, place)
+                same("lookup, cut before its end", of(r.lookup_plan, tree, part[:-1], n, place), CUT, tree, body, n, place)
     same("lookup at n", of(r.lookup_plan, tree, body, n, n), ("refused", 6), tree, body, n)
 
 
@@ -363,24 +413,24 @@ def round_body(tree, kind):
         lookups(tree, damaged, m, got)
     else:
         count("damaged bodies refused")
-        same("refused by 9", got, ("refused", 9), tree, damaged, m)
-        lookups(tree, damaged, m, None)
+        same("refused by 9 or 13", got in SORTS, True, got, tree, damaged, m)
+        count("%d first, read: %d" % (tree[0], got[1]))
+        lookups(tree, damaged, m, got)
 
 
 def round_loose(tree, kind):
-    """Lookups find the numbers of a loose body; reading refuses it unless it is the strict one."""
+    """Lookups find the numbers of a loose body; reading refuses it by 13 unless it is the strict one."""
     n = random_count()
     numbers = random_list(kind, n)
     body = loose(tree, numbers)
     strict = body == r.write_plan(tree, numbers)
     count("loose bodies read" if strict else "loose bodies refused")
-    same("loose read", of(r.read_plan, tree, body, n), numbers if strict else ("refused", 9),
-         tree, body, n)
+    same("loose read", of(r.read_plan, tree, body, n), numbers if strict else BROKEN, tree, body, n)
     lookups(tree, body, n, numbers)
 
 
 def broken_batch(numbers):
-    """A four-wise batch with one rule broken, and whether the body ends there."""
+    """A four-wise batch at fault, and whether it is cut, so that the body ends there."""
     batch, masks = bytearray(r.write_code(r.FOURWISE, numbers)), r.up(len(numbers), 4)
     short = [i for i, x in enumerate(numbers) if r.fewest(x) < 4]
     unused = 2 * (len(numbers) % 4)                 # the bit of the last mask that they begin at
@@ -402,20 +452,20 @@ def broken_batch(numbers):
 
 
 def round_batches():
-    """One four-wise batch with a rule broken: what holds a place before it answers, the batch
-    itself and all after it refuse."""
+    """One four-wise batch at fault: what holds a place before it answers, the batch itself and all
+    after it refuse, by the sort of its fault."""
     numbers = random_list(0, rnd.randint(1, 50))
     n = len(numbers)
     first = 16 * rnd.randrange(r.up(n, 16))         # of the batch at fault
-    broken, last = broken_batch(numbers[first:first + 16])
-    body = r.write_code(r.FOURWISE, numbers[:first]) + broken
-    if not last:
+    broken, cut = broken_batch(numbers[first:first + 16])
+    body, number = r.write_code(r.FOURWISE, numbers[:first]) + broken, CUT if cut else BROKEN
+    if not cut:
         body += r.write_code(r.FOURWISE, numbers[first + 16:])
-    same("broken batch read", of(r.read_code, r.FOURWISE, body, n), ("refused", 9), body, n)
+    same("broken batch read", of(r.read_code, r.FOURWISE, body, n), number, body, n)
     same("broken batch looked up", [of(r.lookup_code, r.FOURWISE, body, n, i) for i in range(n)],
-         numbers[:first] + (n - first) * [("refused", 9)], body, n)
+         numbers[:first] + (n - first) * [number], body, n)
     whole = r.write_code(r.FOURWISE, numbers) + bytes(rnd.randint(1, 4))
-    same("bytes left over read", of(r.read_code, r.FOURWISE, whole, n), ("refused", 9), whole, n)
+    same("bytes left over read", of(r.read_code, r.FOURWISE, whole, n), BROKEN, whole, n)
     place = rnd.randrange(n)
     same("bytes left over looked up", of(r.lookup_code, r.FOURWISE, whole, n, place), numbers[place],
          whole, n)
@@ -474,6 +524,12 @@ def broken_direct(numbers, way):
     return body + bytes(rnd.choice((1, 1, 2, 9))) if way == "left over" else body
 
 
+def parts_end(body):
+    """Where the parts of a directly addressed body end, by its header, which is there."""
+    many = int.from_bytes(body[:4], "little")
+    return 4 + (many + 7) // 8 + 2 * (many // 512) + many
+
+
 def round_direct():
     """A long directly addressed list: written and looked up, loose, then with a rule broken."""
     numbers = direct_list()
@@ -488,7 +544,7 @@ def round_direct():
         same("direct lookup", of(r.lookup_code, r.DIRECT, body, n, place), numbers[place], body, place)
     slack = loose_direct(numbers)
     lookups(tree, slack, n, numbers)
-    same("direct loose read", of(r.read_code, r.DIRECT, slack, n), numbers if slack == body else ("refused", 9), slack)
+    same("direct loose read", of(r.read_code, r.DIRECT, slack, n), numbers if slack == body else BROKEN, slack)
     way = rnd.choice(DIRECT_WAYS if len(bits) >= 512 else DIRECT_WAYS[2:])
     count("direct bodies with " + way)
     body = broken_direct(numbers, way)
@@ -496,11 +552,11 @@ def round_direct():
     if way == "end moved" and isinstance(got, list):
         same("direct written back", r.write_code(r.DIRECT, got), body, n)
     else:
-        same("direct refused", got, ("refused", 9), way, body, n)
+        same("direct refused", got, CUT if parts_end(body) > len(body) else BROKEN, way, body, n)
     for place in sorted(asked):
         found = of(r.lookup_code, r.DIRECT, body, n, place)
         same("direct looked up", found, of(literal_direct, body, place), way, body, place)
-        if found == ("refused", 9):
+        if found in SORTS:
             count("direct lookups refused")
         elif found != numbers[place]:
             count("direct lookups sent to another number")
@@ -525,7 +581,7 @@ def round_below():
         tree = 17, tree
     found = [of(r.lookup_plan, tree, body, n, place) for place in range(n)]
     same("below stages", found, [of(literal, tree, body, n, place) for place in range(n)], tree, body, n)
-    if ("refused", 9) in found and any(isinstance(x, int) for x in found[found.index(("refused", 9)):]):
+    if BROKEN in found and any(isinstance(x, int) for x in found[found.index(BROKEN):]):
         count("direct places at fault alone under %d" % tree[0])
 
 
@@ -659,15 +715,15 @@ def round_sheet():
             sheet_agrees(damaged, [r.read(damaged, i, WIDE_WORK, 1024) for i in range(columns)])
             continue
         count("damaged sheet refused %d in %s" % (got[1], edition_of(damaged)))
-        same("check refuses", got[1] in (1, 2, 3, 4, 9), True, damaged)
-        if got[1] != 9:
+        same("check refuses", got[1] in (1, 2, 3, 4, 9, 13), True, damaged)
+        if got not in SORTS:
             same("reader refused", (r.open_reader(damaged, 0), r.calls(damaged, 0, 2)),
                  (got[1], 2 * [("refused", 1)]), damaged)
             same("read refused", of(r.read, damaged, 99, 0, 0), got, damaged)
         else:
             reads = [of(r.read, damaged, i, WIDE_WORK, 1024) for i in range(columns)]
-            faulty = [i for i, x in enumerate(reads) if x == ("refused", 9)]
-            line = b"refused 9 column %d\n" % faulty[0]
+            faulty = [(x[1], i) for i, x in enumerate(reads) if x in SORTS]
+            line = b"refused %d column %d\n" % faulty[0]
             same("first at fault", (r.listing(damaged), r.board_text(damaged)), (line, line), damaged)
 
 
@@ -679,9 +735,9 @@ def as_other_edition(sheet, lists):
     twice = [i for i, kind in enumerate(kinds) if kind == 1 and len(set(lists[i])) < len(lists[i])]
     told = "edition %d as %d: " % (sheet[0], other[0])
     if twice:                           # only an edition 1 sheet has equal neighbours
-        count(told + "refused 9")
+        count(told + "refused 13")
         same(told + "its edition", sheet[0], 1, sheet)
-        line = b"refused 9 column %d\n" % twice[0]
+        line = b"refused 13 column %d\n" % twice[0]
         same(told + "programs", (r.listing(other), r.board_text(other)), (line, line), sheet)
     else:
         count(told + "passed")
@@ -690,7 +746,7 @@ def as_other_edition(sheet, lists):
     for index, numbers in enumerate(lists):
         n = len(numbers)
         same(told + "read", of(r.read, other, index, 7 * n, n),
-             ("refused", 9) if index in twice else numbers, sheet, index)
+             BROKEN if index in twice else numbers, sheet, index)
         same(told + "fetched", r.fetch(other, index), r.fetch(sheet, index), sheet, index)
         for place in places(n)[:3]:
             same(told + "lookup", of(r.lookup, other, index, place), numbers[place], sheet, index)
@@ -726,6 +782,269 @@ def round_editions():
         same("but for byte 0", sheets[1][1:], sheets[2][1:], numbers)
 
 
+# ------------------------------------------------------------ which sort of fault (request P5)
+
+def column_read(edition, kind, tree, n, body):
+    """A column alone in its sheet: its list, or what reading it refuses by."""
+    entry = bytes([kind]) + fill(tree) + r.u32(n) + r.u32(len(body))
+    return of(r.read, bytes([edition, 1]) + entry + body, 0, 7 * n, n)
+
+
+def some_bytes(most):
+    return bytes(rnd.choice((0, 1, 2, 3, 128, 255, rnd.randrange(256))) for _ in range(rnd.randint(1, most)))
+
+
+def round_cuts(tree, kind):
+    """A body that reads: each proper prefix is 9, with bytes added it is 13.  Any body: its prefixes in turn are 9,
+    then perhaps one reads, then all are 13; a lookup is 9 in turn, then in all of the rest it finds the same."""
+    edition, n = rnd.choice(r.EDITIONS), rnd.choice((0, 1, 2, 3, 4, 5, 6, 9, 17))
+    numbers = random_list(kind, n, edition)
+    body = r.write_plan(tree, numbers)
+    same("whole", column_read(edition, kind, tree, n, body), numbers, tree, body)
+    for end in range(len(body)):
+        same("a proper prefix", column_read(edition, kind, tree, n, body[:end]), CUT, edition, kind, tree, body, end)
+    for more in b"\0", some_bytes(1), some_bytes(9):
+        same("bytes added", column_read(edition, kind, tree, n, body + more), BROKEN, edition, kind, tree, body, more)
+    way = rnd.randrange(5)
+    if way == 1:
+        body = loose(tree, numbers)
+    elif way == 2:                      # any bytes, or zeros enough for gamma's 33rd
+        body = rnd.choice((some_bytes(24), body[:rnd.randrange(3)] + bytes(rnd.randint(1, 9)) + some_bytes(3)))
+    elif way == 3 and n > 1:            # a list that is not of its kind, where its plan can hold it
+        numbers[rnd.randrange(n)] = random_number()
+        body = r.write_plan(tree, numbers) if r.passes(0, tree) else body
+    body = damage(body) if way in (0, 4) else body
+    m = rnd.choice((n, n, n, n + 1, max(0, n - 1)))
+    prefixes_of(edition, kind, tree, m, body + (some_bytes(3) if rnd.random() < 0.4 else b""))
+
+
+def not_cut(answers):
+    """Where the first answer is that is not 9."""
+    return next((i for i, x in enumerate(answers) if x != CUT), len(answers))
+
+
+def prefixes_of(edition, kind, tree, n, body):
+    """The prefixes of any body in turn, read and looked up."""
+    answers = [column_read(edition, kind, tree, n, body[:end]) for end in range(len(body) + 1)]
+    cuts = not_cut(answers)
+    rest, about = answers[cuts:], (edition, kind, tree, n, body)
+    if rest and isinstance(rest[0], list):
+        count("%d first, 9 until it is read" % tree[0])
+        del rest[0]
+    elif rest:
+        count("%d first, 9 until it is 13" % tree[0])
+        if isinstance(of(r.read_plan, tree, body[:cuts], n), list):
+            count("a fall alone is 13 in edition %d" % edition)
+    same("prefixes in turn", rest, len(rest) * [BROKEN], answers, *about)
+    for place in sorted({0, n - 1, rnd.randrange(n)} if n else ()):
+        found = [of(r.lookup_plan, tree, body[:end], n, place) for end in range(len(body) + 1)]
+        rest = found[not_cut(found):]
+        same("lookups of prefixes in turn", rest, len(rest) * rest[:1], found, *about, place)
+        if rest:
+            count("%d first, looked up 9 until it is %s" % (tree[0], "13" if rest[0] == BROKEN else "a number"))
+
+
+def broken_unit(code, xs):
+    """A unit of numbers with a rule broken: the way, its control bytes (codes 2, 4 and 7), its own bytes, or bits in
+    gamma and delta, and how many of these decide it."""
+    if code == r.VBYTE:
+        unit = r.write_vbyte(xs[0])
+        if len(unit) < 5 and rnd.random() < 0.5:
+            return "last byte 0", b"", unit[:-1] + bytes([unit[-1] | 128, 0]), len(unit) + 1
+        return "fifth byte", b"", bytes(rnd.randint(128, 255) for _ in range(4)) + bytes([rnd.randint(16, 255)]), 5
+    if code in (r.GAMMA, r.DELTA):
+        bits, zeros = (r.gamma_bits, 33) if code == r.GAMMA else (r.delta_bits, 6)
+        way = rnd.choice(("zeros", "too large") + ("length",) * (code == r.DELTA))
+        if way == "zeros":
+            return way, b"", zeros * "0", zeros
+        if way == "length":                             # 34 to 63, in gamma
+            unit = r.gamma_bits(rnd.randint(34, 63))
+        else:
+            unit = bits(rnd.choice((2**32 + 1, 2**33 - 1, rnd.randrange(2**32 + 1, 2**33))))
+        return way, b"", unit, len(unit)
+    if code == r.G8IU:
+        way, block = rnd.choice((("waste", [0xFC, 5, 6, 0, 0, 0, 0, 0, rnd.randint(1, 255)]), ("no number", [255] + 8 * [0]),
+                                 ("longer", [0xED, 5, 0, 6, 0, 0, 0, 0, 0])))
+        return way, b"", bytes(block), 9
+    sizes, way = [r.fewest(x) for x in xs], "longer"
+    data, fields = [x.to_bytes(size, "little") for x, size in zip(xs, sizes)], (r.up(len(xs), 4) * 4) * [None]
+    short = [i for i, size in enumerate(sizes) if size < 4]
+    if len(xs) % 4 and (not short or rnd.random() < 0.5):
+        way = "unused field"
+    elif not short:
+        return None, b"", b"", 0
+    else:
+        i = rnd.choice(short)
+        data[i] += b"\0"
+        sizes[i] += 1
+    for i in range(len(fields)):
+        fields[i] = 0 if i >= len(xs) else 4 - sizes[i] if code == r.FOURWISE else sizes[i] - 1
+    if way == "unused field":
+        fields[rnd.randrange(len(xs), len(fields))] = rnd.randint(1, 3)
+    controls = bytes(sum(field << 2 * k for k, field in enumerate(fields[first:first + 4]))
+                     for first in range(0, len(fields), 4))
+    return way, controls, b"".join(data), sum(sizes)
+
+
+def round_units(code):
+    """Good units, one with a rule broken, then bytes of any sort: 13 from the byte on that decides it, before that 9."""
+    size = {r.GROUPS: 4, r.STREAM: 4, r.FOURWISE: 16}.get(code, 1)
+    before = random_list(0, size * rnd.randrange(4))
+    if code == r.G8IU:                                  # full blocks, or the next one must not fit
+        before = [x % 256 for x in random_list(0, 8 * rnd.randrange(3))]
+    last = size > 1 and rnd.random() < 0.6
+    xs = random_list(0, rnd.randint(1, size) if last else size)
+    n = len(before) + len(xs) + (0 if last else rnd.choice((0, 0, 1, 5)))
+    if code == r.G8IU:
+        n += 2
+    way, controls, unit, decided = broken_unit(code, xs)
+    if way is None:
+        return
+    tail = rnd.choice((b"", some_bytes(9)))
+    if code in (r.GAMMA, r.DELTA):
+        bits = "".join((r.gamma_bits if code == r.GAMMA else r.delta_bits)(x + 1) for x in before)
+        body, decided = r.pack(bits + unit) + tail, r.up(len(bits) + decided, 8)
+    elif code == r.STREAM:
+        groups = r.write_groups(before)
+        front = b"".join(c for c, _ in groups) + controls
+        front += bytes(rnd.randrange(256) for _ in range(r.up(n, 4) - len(front))) + b"".join(d for _, d in groups)
+        body, decided = front + unit + tail, len(front) + decided
+    else:
+        front = r.write_code(code, before) + controls
+        body, decided = front + unit + tail, len(front) + decided
+    count("unit broken: %d %s" % (code, way))
+    answers = [CUT if end < decided else BROKEN for end in range(len(body) + 1)]
+    same("broken unit", [of(r.read_code, code, body[:end], n) for end in range(len(body) + 1)], answers, code, way, body, n)
+    for place in {len(before), n - 1}:
+        same("broken unit looked up", [of(r.lookup_code, code, body[:end], n, place) for end in range(len(body) + 1)],
+             answers, code, way, body, n, place)
+    if before:                                          # the unit before is found whatever follows it
+        same("before a broken unit", of(r.lookup_code, code, body, n, len(before) - 1), before[-1], code, way, body, n)
+
+
+BROKEN_FIRST = {r.VBYTE: "80 00", r.GROUPS: "55 01 00 01 00 01 00 01 00", r.G8IU: "FF 00 00 00 00 00 00 00 00",
+                r.STREAM: "55 01 00 01 00 01 00 01 00", r.GAMMA: "00 00 00 00 00", r.DELTA: "00",
+                r.FOURWISE: "AA 01 00 01 00 01 00 01 00", r.DIRECT: "04 00 00 00 00 01 01 01 01"}
+
+
+def at_fault(code, numbers, sort):
+    """The body of a list by a code, or one whose first unit is of a sort of fault."""
+    body = r.write_code(code, numbers)
+    if sort == 9:
+        return body[:rnd.randrange(4 if code == r.DIRECT else 1)]
+    return bytes.fromhex(BROKEN_FIRST[code]) + (b"" if rnd.random() < 0.5 else some_bytes(3)) if sort == 13 else body
+
+
+def round_pairs():
+    """Values and lengths, each whole or with a first unit of either sort of fault, under every stage: reading takes the
+    values first, a lookup the lengths."""
+    values, under = rnd.choice(([0, 5, 6], [0, 300], [0], [0, 70000, 7, 0])), rnd.choice(STAGES)
+    lengths, codes = [rnd.choice((1, 1, 2, 3)) for _ in values], [rnd.choice(r.CODES) for _ in range(2)]
+    of_values, of_lengths = faults = [rnd.choice((0, 9, 13)) for _ in range(2)]
+    (body, last), inner = (at_fault(*case) for case in zip(codes, (values, lengths), faults)), (codes[0],)
+    way = rnd.randrange(4)                              # the values themselves in a reference, or in runs of one
+    if way == 0:
+        body, inner = r.u32(0) + body, (r.REFERENCE, inner)
+    elif way == 1:
+        body, inner = r.u32(len(values)) + r.u32(len(body)) + body + len(values) * b"", (r.RUNS, inner, (r.VBYTE,))
+    tree, n = (r.RUNS, inner, (codes[1],)), sum(lengths)
+    body = r.u32(len(values)) + r.u32(len(body)) + body + last
+    numbers = [x for x, length in zip(values, lengths) for _ in range(length)]
+    if under == r.REFERENCE:
+        tree, body = (under, tree), r.u32(0) + body
+    elif under == r.DIFFERENCES:
+        tree, numbers = (under, tree), list(accumulate(numbers))
+    count("values %d, lengths %d under %d" % (*faults, under))
+    same("values first", of(r.read_plan, tree, body, n),
+         ("refused", of_values or of_lengths) if any(faults) else numbers, tree, body, n)
+    same("lengths first", [of(r.lookup_plan, tree, body, n, place) for place in range(n)],
+         n * [("refused", of_lengths or of_values)] if any(faults) else numbers, tree, body, n)
+
+
+def faulty_at(code, numbers, at, sort):
+    """The body of a list by VByte, gamma or delta, of which the number at a place, and none before it, is of a sort of fault."""
+    if sort == 0:
+        return r.write_code(code, numbers)
+    if code == r.VBYTE:
+        return r.write_code(code, numbers[:at]) + rnd.choice((b"", b"\x80") if sort == 9 else (b"\x80\0", b"\x80\0\5", 5 * b"\xff"))
+    bits, zeros = (r.gamma_bits, 33) if code == r.GAMMA else (r.delta_bits, 6)
+    before = "".join(bits(x + 1) for x in numbers[:at])
+    return r.pack(before + bits(2**32))[:-2] if sort == 9 else r.pack(before + zeros * "0")
+
+
+def round_places():
+    """Values and lengths with a fault at any place, values that may be too large a sum, equal neighbours, lengths of 0 and wrong
+    totals: what is told of each place, and of the whole, by the order of reading, spelt out here alone."""
+    k, in_runs, base, added = rnd.randint(1, 4), rnd.random() < 0.7, rnd.choice((None, None, 0, 1, MAX)), rnd.random() < 0.5
+    codes = [rnd.choice((r.VBYTE, r.GAMMA, r.DELTA)) for _ in range(2)]
+    xs, ys = [rnd.choice((0, 1, 2, 300, 2**31, MAX)) for _ in range(k)], [rnd.choice((1, 1, 1, 2, 3, 0)) for _ in range(k)]
+    sorts = [rnd.choice((0, 9, 13)) for _ in range(2)]
+    at, length_at = (rnd.randrange(k) if sort else k for sort in sorts)
+    body, tree, n = faulty_at(codes[0], xs, at, sorts[0]), (codes[0],), k
+    if base is not None:
+        body, tree = r.u32(base) + body, (r.REFERENCE, tree)
+    if in_runs:
+        n = max(k, sum(ys) + rnd.choice((0, 0, 0, 1, -1)))
+        body = r.u32(k) + r.u32(len(body)) + body + faulty_at(codes[1], ys, length_at, sorts[1])
+        tree = r.RUNS, tree, (codes[1],)
+    tree = (r.DIFFERENCES, tree) if added else tree
+    values = [(base or 0) + x for x in xs]
+
+    def run_at(place):
+        """The run that holds a place, or the number of the fault."""
+        total = 0
+        for run, length in enumerate(ys):
+            if run == length_at:
+                return None, sorts[1]
+            total += length
+            if length == 0 or total > n:
+                return None, 13
+            if total > place:
+                return run, 0
+        return None, 13
+
+    def told(place):
+        run, number = run_at(place) if in_runs else (place, 0)
+        if number or at <= run:
+            return "refused", number or sorts[0]
+        some = [x for i, x in enumerate(values) for _ in range(ys[i] if in_runs else 1)][:place + 1]
+        found = sum(some) if added else values[run]
+        return found if found <= MAX else BROKEN
+
+    def told_of_all():
+        if sorts[0]:
+            return "refused", sorts[0]
+        if max(values) > MAX or (base is not None and min(xs) > 0):
+            return BROKEN
+        some = values
+        if in_runs:
+            if sorts[1]:
+                return "refused", sorts[1]
+            if 0 in ys or sum(ys) != n or any(a == b for a, b in zip(values, values[1:])):
+                return BROKEN
+            some = [x for x, length in zip(values, ys) for _ in range(length)]
+        if added:
+            some = list(accumulate(some))
+        return some if max(some) <= MAX else BROKEN
+
+    same("places", [of(r.lookup_plan, tree, body, n, place) for place in range(n)], [told(place) for place in range(n)], tree, body, n)
+    same("places, all", of(r.read_plan, tree, body, n), told_of_all(), tree, body, n)
+
+
+def round_headers():
+    """A run stage's header: its 8 bytes, the run count, the values length, in this order, before anything else."""
+    n, codes = rnd.randint(1, 4), [(rnd.choice(r.CODES),) for _ in range(2)]
+    runs, size = rnd.choice((0, 1, n, n + 1, 2**31, MAX)), rnd.choice((0, 1, 4, 9, MAX, MAX - 7))
+    body = (r.u32(runs) + r.u32(size) + some_bytes(9))[:rnd.choice((3, 4, 7, 8, 9, 17))]
+    if len(body) >= 8 and runs <= n and 8 + size <= len(body):
+        return
+    number = CUT if len(body) < 8 else BROKEN if runs > n else CUT
+    tree, body = rnd.choice((((r.RUNS, *codes), body), ((r.DIFFERENCES, (r.RUNS, *codes)), body),
+                             ((r.REFERENCE, (r.RUNS, *codes)), r.u32(MAX) + body)))
+    same("run header", [of(r.read_plan, tree, body, n)] + [of(r.lookup_plan, tree, body, n, place) for place in range(n)],
+         (1 + n) * [number], tree, body, n)
+
+
 start = time.time()
 for i in range(ROUNDS):
     turn, kind, code = i % 10, rnd.randrange(2), (r.CODES[i // 10 % len(r.CODES)],)
@@ -740,6 +1059,11 @@ for i in range(ROUNDS):
         round_batches()
         round_editions()
         round_below()
+        round_cuts(code if rnd.random() < 0.4 else random_tree(kind), kind)
+        round_units(rnd.choice(r.CODES[:7]))
+        round_pairs()
+        round_places()
+        round_headers()
         if i % 40 == 7:
             round_direct()
             round_bits()

@@ -3,9 +3,11 @@
     python3 compare.py ARCHIVE [OPERATIONS [SEED]]
 
 Compares every answer, the whole output, and that nothing else changed.  Exit status 1 if any differ, or if SURE
-operations or more did not meet each refusal that an operation can give, in each edition."""
+operations or more did not meet each refusal that an operation can give, in each edition, and often enough each sort of
+body fault: 9, a body cut short, and 13, any other."""
 
 import collections
+import itertools
 import multiprocessing
 import os
 import struct
@@ -27,8 +29,11 @@ TROUBLE = {1: "an input changed", 2: "bytes before a slice changed", 4: "stopped
 CHUNK, SHOWN, ENOUGH = 1000, 5, 2000       # operations a driver; differences shown; when to stop
 SURE = 100000                              # operations that meet all of what can be met
 NUMBERS = {"judge": (0, 3, 4, 11), "worst": (0, 3, 11), "write": (0, 3, 4, 7, 8, 10, 11),
-           "check": (0, 1, 2, 3, 4, 8, 9), "read": (0, 1, 2, 3, 4, 5, 7, 8, 9), "lookup": (0, 1, 2, 3, 4, 5, 6, 9),
-           "fetch": (0, 1, 2, 3, 4, 5), "board": (0, 1, 2, 3, 4, 8, 9, 12), "rank": (0, 1, 6), "select": (0, 1, 6)}
+           "check": (0, 1, 2, 3, 4, 8, 9, 13), "read": (0, 1, 2, 3, 4, 5, 7, 8, 9, 13),
+           "lookup": (0, 1, 2, 3, 4, 5, 6, 9, 13), "fetch": (0, 1, 2, 3, 4, 5), "board": (0, 1, 2, 3, 4, 8, 9, 12, 13),
+           "rank": (0, 1, 6), "select": (0, 1, 6)}
+SORTS = (9, 13)
+OF_A_HUNDRED, OF_EACH = 8, 40              # the fewest of each sort: of a hundred operations; by each code and stage that a plan begins with
 NO_EDITION, OTHER, EQUAL = "", "other", "equal"       # EQUAL: the editions part here, at equal neighbours of kind 1
 
 Result = collections.namedtuple("Result", "number trouble answers out")
@@ -91,11 +96,11 @@ def in_edition(op, edition):
 
 
 def met_by(op, number):
-    """What an operation met: its name, its edition, the number, and whether only edition 2 refuses it by 9 or 10."""
+    """What an operation met: its name, its edition, the number, and whether only edition 2 refuses it by 13 or 10."""
     edition, equal = edition_of(op), False
     if edition == 1 and number in (0, 12):
-        equal = expected(in_edition(op, 2)).number in (9, 10)
-    elif edition == 2 and number in (9, 10):
+        equal = expected(in_edition(op, 2)).number in (13, 10)
+    elif edition == 2 and number in (13, 10):
         equal = expected(in_edition(op, 1)).number != number
     return op.what, edition, number, EQUAL if equal else ""
 
@@ -108,9 +113,27 @@ def to_meet():
             continue
         yield from ((name, edition, number, "") for edition in r.EDITIONS for number in numbers)
         yield name, OTHER, 11 if name == "write" else 1, ""
-    for name, first, second in (("write", 0, 10), ("check", 0, 9), ("read", 0, 9), ("board", 12, 9)):
+    for name, first, second in (("write", 0, 10), ("check", 0, 13), ("read", 0, 13), ("board", 12, 13)):
         yield name, 1, first, EQUAL
         yield name, 2, second, EQUAL
+
+
+def faults(operations, results):
+    """How often reading and lookup met each sort of body fault, by what the column's plan begins with."""
+    return collections.Counter((op.what, op.inputs[0][3 + r.entry_size(op.inputs[0][0]) * op.a], result.number)
+                               for op, result in zip(operations, results)
+                               if op.what in ("read", "lookup") and result.number in SORTS)
+
+
+def too_few(met, sorts, many):
+    """What was not met as often as it must be to tell the sorts of body faults apart."""
+    for number in SORTS:
+        seen = sum(times for case, times in met.items() if case[2] == number)
+        if 100 * seen < OF_A_HUNDRED * many:
+            yield "%d: %d of %d operations" % (number, seen, many)
+        for what, first in itertools.product(("read", "lookup"), r.CODES + (r.REFERENCE, r.DIFFERENCES, r.RUNS)):
+            if sorts[what, first, number] < OF_EACH:
+                yield "%d: %s of plans that begin with %d: %d" % (number, what, first, sorts[what, first, number])
 
 
 def numbers_of(words):
@@ -146,23 +169,25 @@ def described(op, got, wanted):
 
 
 def chunk(task):
-    """Compares one chunk: how often each operation met what, how many differ, the first of them."""
+    """Compares one chunk: how often each operation met what, and which sorts of body faults, how many differ, the first of them."""
     driver, seed, many = task
-    operations = generate.operations(seed, many)
+    operations = generate.operations(seed, many) if seed else generate.corners()
     wanted = [expected(op) for op in operations]
     met = collections.Counter(met_by(op, result.number) for op, result in zip(operations, wanted))
     differ = [described(op, got, want) for op, got, want in zip(operations, asked(driver, operations), wanted)
               if got != want]
-    return met, len(differ), differ[:SHOWN]
+    return met, faults(operations, wanted), len(differ), differ[:SHOWN]
 
 
 def main(archive, many=200000, seed=1):
     began, driver = time.time(), machine.build("driver", os.path.join(HERE, "driver.c"), archive)
-    tasks = [(driver, "%d %d" % (seed, first), min(CHUNK, many - first)) for first in range(0, many, CHUNK)]
-    met, differ, shown = collections.Counter(), 0, []
+    tasks = [(driver, "", 0)]                  # the corners, then as drawn
+    tasks += [(driver, "%d %d" % (seed, first), min(CHUNK, many - first)) for first in range(0, many, CHUNK)]
+    met, sorts, differ, shown = collections.Counter(), collections.Counter(), 0, []
     with multiprocessing.Pool(2) as pool:
-        for part, more, lines in pool.imap(chunk, tasks):
+        for part, of_bodies, more, lines in pool.imap(chunk, tasks):
             met += part
+            sorts += of_bodies
             differ += more
             shown += lines
             if differ >= ENOUGH:
@@ -176,8 +201,13 @@ def main(archive, many=200000, seed=1):
     unmet = [case for case in to_meet() if case not in met] if many >= SURE and differ < ENOUGH else []
     for name, edition, number, why in unmet:
         print(" ".join(("never met: %s in edition %s: %d %s" % (name, edition, number, why)).split()))
+    few = list(too_few(met, sorts, many)) if many >= SURE and differ < ENOUGH else []
+    for line in few:
+        print("met too seldom: " + line)
+    print("bodies cut short (9) %d, other body faults (13) %d" % tuple(
+        sum(times for case, times in met.items() if case[2] == number) for number in SORTS))
     print("%d operations, %d differ (%d seconds)" % (sum(met.values()), differ, time.time() - began))
-    return 1 if differ or unmet else 0
+    return 1 if differ or unmet or few else 0
 
 
 if __name__ == "__main__":

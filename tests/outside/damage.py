@@ -1,4 +1,5 @@
-"""Damage for the tests from outside: bodies with a rule broken on purpose, and sheets changed in their bytes."""
+"""Damage for the tests from outside: bodies with a rule broken on purpose, cut short, or both, and sheets changed in their
+bytes."""
 
 from itertools import groupby
 
@@ -293,6 +294,51 @@ def loosely(t, some):
     if t[0] == r.FOURWISE:
         return loose_batches(some)
     return loose_g8iu(some) if t[0] == r.G8IU else loose_elias(t[0], some)
+
+# ------------------------------------------------------------ both sorts of fault at once
+
+
+def cut(body):
+    """At any byte, often near its end."""
+    return body[:max(0, len(body) - rnd.choice((1, 1, 2, 3, 9)))] if chance(50) else body[:rnd.randint(0, len(body))]
+
+
+def run_lists(some):
+    """The values and lengths of a list's runs, some with a rule broken: equal neighbours, a length of 0, another sum."""
+    runs = [(x, len(list(equals))) for x, equals in groupby(some)]
+    at = rnd.randrange(len(runs)) if runs and chance(25) else None
+    if at is not None:
+        x, length = runs[at]
+        runs[at:at + 1] = rnd.choice(([(x, 0)], [(x, 0), (x, length)], [(x, length + rnd.choice((1, 2000, MAX - length)))],
+                                      [(x, 1), (x, length)], [(x, length)] + 3 * [(x, 1)], []))
+    return [x for x, _ in runs], [length for _, length in runs]
+
+
+def of_both_sorts(t, some):
+    """The body of a list by a plan in which every part, at every depth, may be cut, broken, both or too long, so that the order
+    of reading decides which fault is the first."""
+    if t[0] == r.REFERENCE:
+        least = min(some, default=0)
+        told = rnd.choice((least, least, least, least // 2, 0, MAX, MAX - 1))
+        body = r.u32(told) + of_both_sorts(t[1], [x - least for x in some])
+    elif t[0] == r.DIFFERENCES:
+        steps = [x - before for before, x in zip([0] + some, some)]
+        if steps and chance(25):                            # sums above 2^32 - 1 from there on
+            steps[rnd.randrange(len(steps))] = rnd.choice((MAX, MAX - 1, 2**31))
+        body = of_both_sorts(t[1], steps)
+    elif t[0] == r.RUNS:
+        values, lengths = run_lists(some)
+        values_body, told, size = of_both_sorts(t[1], values), len(values), None
+        if chance(10):
+            told = max(0, rnd.choice((told - 1, told + 1, 0, len(some) + 1, 2**31, MAX)))
+        if chance(10):
+            size = max(0, len(values_body) + rnd.choice((-1, 1, -2, 2, 9, 2**31)))
+        body = r.u32(told) + r.u32(len(values_body) if size is None else size) + values_body + of_both_sorts(t[2], lengths)
+    else:
+        body = loosely(t, some) if chance(30) else r.write_plan(t, some)
+    if chance(25):
+        return cut(body)
+    return body + bytes(rnd.choice((0, 1, 128, 255)) for _ in range(rnd.randint(1, 3))) if chance(8) else body
 
 # ------------------------------------------------------------ bytes changed
 

@@ -99,6 +99,19 @@ def tree(kind, depth=4, judged=True):
     return rnd.choice(r.CODES),
 
 
+# What stands where in deep plans; 0 is any code.
+SHAPES = 12 * ((0,),) + (
+    (16, 0), (17, 0), (18, 0, 0), (17, 16, 0), (16, 17, 0), (16, 16, 0), (17, 16, 16, 0), (17, 18, 0, 0), (18, 17, 0, 0), (18, 16, 0, 0),
+    (18, 0, 16, 0), (18, 0, 18, 0, 0), (18, 18, 0, 0, 0), (17, 18, 16, 0, 0), (17, 16, 18, 0, 0), (17, 18, 0, 16, 0), (17, 18, 18, 0, 0, 0),
+    (17, 18, 0, 18, 0, 0), (16, 18, 17, 0, 0), (18, 18, 17, 0, 0, 0), (18, 16, 17, 0, 18, 0, 0), (18, 0, 18, 16, 0, 0),
+    (18, 0, 18, 0, 18, 0, 0), (18, 18, 18, 0, 0, 0, 0))
+
+
+def shaped():
+    """A plan of one of the shapes, with any codes."""
+    return r.parse_plan(filled(bytes(x or rnd.choice(r.CODES + (1,)) for x in rnd.choice(SHAPES))))
+
+
 def text(t):
     """A plan's prefix text, not filled."""
     return bytes([t[0]]) + b"".join(map(text, t[1:]))

@@ -5,9 +5,10 @@ from collections import namedtuple
 from itertools import accumulate
 
 import reading as r
-from damage import damaged_body, damaged_table, loosely, other_edition
-from draw import (MAX, OTHER_EDITIONS, bad_plan, chance, count, doubled, filled, near, numbers, rnd, stretched, text, tree,
-                  words)
+from examples import LISTED, SORTS
+from damage import damaged_body, damaged_table, loosely, of_both_sorts, other_edition
+from draw import (MAX, OTHER_EDITIONS, bad_plan, chance, count, doubled, filled, near, numbers, rnd, shaped, stretched, text,
+                  tree, words)
 
 # inputs: four `bytes`; a, b: kind, n, edition, column, place, bit, k; work counts numbers, out bytes; fill: what is there before.
 Operation = namedtuple("Operation", "what inputs a b work out fill")
@@ -143,6 +144,49 @@ def on_a_body():
     yield operation("lookup", [made], 0, rnd.randint(0, len(some)))
 
 
+def column_to_fault():
+    """A column of few numbers, often with equal ones: (kind, tree, list)."""
+    t = shaped()
+    kind = int(r.DIFFERENCES in text(t) or chance(30))
+    some = numbers(kind, rnd.choice((0, 1, 1, 2, 3, 4, 5, 6, 9, 17)), 1)
+    if chance(50):
+        some = [rnd.choice((0, 1, 5, 300, x)) for x in some for _ in range(rnd.choice((1, 2, 3)))][:17]
+        if kind:
+            some.sort()
+    return kind, t, some
+
+
+def on_cuts():
+    """A small body, whole or faulty, cut at each of its bytes (a longer one at some), the table told so: each part read and looked
+    up.  It ends where the slice does, or another column's body stands after it."""
+    (kind, t, some), edition = column_to_fault(), rnd.choice(r.EDITIONS)
+    n, way = len(some), rnd.randrange(4)
+    body = r.write_plan(t, some) if way == 0 else loosely(t, some) if way == 1 else of_both_sorts(t, some)
+    ends = range(len(body) + 1) if len(body) <= 24 else sorted(rnd.sample(range(len(body) + 1), 24))
+    after = [] if chance(70) else [(0, filled(b"\1"), n, n * b"\1")]
+    for end in ends:
+        made = assemble(edition, [(kind, filled(text(t)), n, body[:end])] + after)
+        yield operation("read", [made], 0, work=7 * n, out=4 * n)
+        if n:
+            yield operation("lookup", [made], 0, rnd.choice((0, n - 1, rnd.randrange(n))))
+        if chance(20):
+            yield operation(rnd.choice(("check", "board")), [made], work=8 * n)
+
+
+def on_both_sorts():
+    """Faults of both sorts in one body, and in two columns: which is the first?  Looked up at every place."""
+    edition, columns = rnd.choice(r.EDITIONS), [column_to_fault() for _ in range(rnd.choice((1, 1, 1, 2, 3)))]
+    made = assemble(edition, [(kind, filled(text(t)), len(some), of_both_sorts(t, some)) for kind, t, some in columns])
+    largest = max(len(some) for _, _, some in columns)
+    yield operation("check", [made], work=8 * largest)
+    if chance(50):
+        yield operation("board", [made], work=8 * largest)
+    for at, (_, _, some) in enumerate(columns):
+        yield operation("read", [made], at, work=7 * len(some), out=4 * len(some))
+        for place in range(len(some)) if len(some) <= 8 else sorted(rnd.sample(range(len(some)), 8)):
+            yield operation("lookup", [made], at, place)
+
+
 def sums_told(t, body):
     """What the sums of a body say, wherever code 8 stands in its plan, as far as the parts are there."""
     if t[0] == r.REFERENCE:
@@ -275,7 +319,24 @@ def judging():
 
 
 SCENES = (4 * (on_a_sheet,) + 6 * (on_a_body,) + 6 * (on_a_board,) + 2 * (writing, judging) + (on_editions,)
-          + 5 * (on_direct,) + 2 * (on_bits,))
+          + 5 * (on_direct,) + 2 * (on_bits,) + (on_cuts,) + 7 * (on_both_sorts,))
+
+
+def corners():
+    """The examples of which sort a body fault is, and each of them cut at each byte, in both editions, in turn before the slice's
+    end and before another body; and a small sheet cut at each byte, its table as it was."""
+    rnd.seed("corners")
+    made = [operation("check", [bytes([edition]) + LISTED[1:end]], work=24) for edition in r.EDITIONS for end in range(1, len(LISTED) + 1)]
+    for at, (plan, shown, n, _, _) in enumerate(SORTS):
+        body, kind = bytes.fromhex(shown), int(r.DIFFERENCES in plan)
+        for end in range(len(body) + 1):
+            for edition in r.EDITIONS if end == len(body) else (1 + (at + end) % 2,):
+                after = [(0, filled(b"\1"), n, n * b"\1")] if (at + end + edition) % 4 == 0 else []
+                one = assemble(edition, [(kind, filled(bytes(plan)), n, body[:end])] + after)
+                made.append(operation("check", [one], work=8 * n))
+                made.append(operation("read", [one], 0, work=7 * n, out=4 * n))
+                made += [operation("lookup", [one], 0, place) for place in (range(n) if end == len(body) else sorted({0, n - 1} - {-1}))]
+    return made
 
 
 def operations(seed, many):

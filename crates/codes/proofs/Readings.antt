@@ -11,7 +11,7 @@ use lib.Seq.{sets, take-all, getD-take, getD-drop}
 use Rattle.meaning.specs.Answer.{Answer, given, refused, bind, amount}
 use Rattle.meaning.specs.Codes.{codeOf, readCode}
 use Rattle.meaning.specs.DataBytes.{byteLength}
-use Rattle.meaning.specs.Limits.{fault}
+use Rattle.meaning.specs.Limits.{broken}
 use Rattle.meaning.specs.Places.{Below, Spare, Target, Got}
 use Rattle.meaning.specs.Units.{readUnits}
 use Rattle.meaning.specs.declared.Position.{Position}
@@ -130,12 +130,12 @@ module _ {code : ℕ} {body : List ℕ} {n : ℕ} {w₀ : List ℕ} {from : ℕ}
         }
 
     -- it may not
-    pub got-unjoined : byteLength (getD w′ (from + i) 0) ≤ spare → Got (readCode (codeOf code) body n) from w₀ w′ (Refused fault)
+    pub got-unjoined : byteLength (getD w′ (from + i) 0) ≤ spare → Got (readCode (codeOf code) body n) from w₀ w′ (Refused broken)
     got-unjoined b =
         let some : 0 < length (went .numbers) = omega (arith, went .counted, went .some) in
         let (u, eu, e) = stretch-first (codeOf code .unit body) (codeOf code .joins) (n - i) p (laws code .good body (r .bytes)) (went .are) some in
         let j : codeOf code .joins (r .before) (u .1) ≡ false = r .leaves (u .1) ∙ le-ltb spare (byteLength (getD (u .1) 0 0)) (rw (e, ← first-is) b) in
-        let z : readCode (codeOf code) body n ≡ refused fault =
+        let z : readCode (codeOf code) body n ≡ refused broken =
         read-is
         ∙ read-unjoined (codeOf code .unit body) (codeOf code .joins) (codeOf code .done body) n (r .first) w₀ from (laws code .good body (r .bytes)) w i
         (r .before) p (r .so) u h eu j in
@@ -153,8 +153,8 @@ module _ {code : ℕ} {body : List ℕ} {n : ℕ} {w₀ : List ℕ} {from : ℕ}
         (r .before) p (r .so)
         (readCode (codeOf code) body n) read-is h d
 
-    pub got-left-over : codeOf code .done body p ≡ false → Got (readCode (codeOf code) body n) from w₀ w (Refused fault)
+    pub got-left-over : codeOf code .done body p ≡ false → Got (readCode (codeOf code) body n) from w₀ w (Refused broken)
     got-left-over d =
-        got-fault fault
+        got-fault broken
         (read-end (codeOf code .unit body) (codeOf code .joins) (codeOf code .done body) n (r .first) w₀ from (laws code .good body (r .bytes)) w i
         (r .before) p (r .so) h ∙ rw d)

@@ -7,7 +7,7 @@ use native.Mathlib.Omega.{arith}
 use lib.ListN.{length}
 use Rattle.meaning.specs.Answer.{given, refused}
 use Rattle.meaning.specs.Codes.{codeOf, lookCode}
-use Rattle.meaning.specs.Limits.{fault}
+use Rattle.meaning.specs.Limits.{broken}
 use Rattle.meaning.specs.Stages.{seek}
 use Rattle.meaning.specs.declared.Place.{Place}
 use Rattle.meaning.specs.declared.Position.{Position}
@@ -40,7 +40,7 @@ module _ {code : ℕ} {body : List ℕ} {runs n place passed : ℕ} {p : Positio
       (refuses (o .looking) g q passed (omega arith) h)
 
   -- no run is left
-  pub on-end : runs ≤ passed → seek (lookCode (codeOf code) body runs) n place runs 0 0 ≡ refused fault
+  pub on-end : runs ≤ passed → seek (lookCode (codeOf code) body runs) n place runs 0 0 ≡ refused broken
   on-end h =
       o .so ∙ seek-none (lookCode (codeOf code) body runs) n place (runs - passed) passed done (omega arith)
 

@@ -1,11 +1,16 @@
 -- The numbers at the first places of a list that is looked up: up to k of them, or up to the first place that refuses.
-use Prim.Native.Nat.{ℕ, _+_, _≤_, _<_}
+use Prim.Native.Nat.{ℕ, zero, suc, _+_, _≤_, _<_}
 use mathlib.Core.Path.{_≡_}
 use mathlib.Core.List.{List}
 use lib.ListN.{length, getD, take}
-use Rattle.meaning.specs.Answer.{Answer, given, refused}
+use Rattle.meaning.specs.Answer.{Answer, given, refused, bind}
 use Rattle.meaning.specs.Limits.{mostBytes, mostNumbers}
 use Rattle.codes.specs.declared.First.{First}
+
+-- the sum of the numbers at the first k places
+unfoldable pub total : (ℕ → Answer ℕ) → ℕ → Answer ℕ
+total at zero = given 0
+total at (suc k) = bind (total at k) (λ s. bind (at k) (λ x. given (s + x)))
 
 -- what a lookup asks: a body no longer than a sheet, and a place of a list no longer than a column
 pub record Looked (body : List ℕ) (n place : ℕ) : Type 0 where

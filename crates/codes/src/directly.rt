@@ -4,15 +4,15 @@ use crate::Run;
 use crate::Total;
 use leaves::long;
 use leaves::whole;
-use meaning::FAULT;
+use meaning::BROKEN;
 use meaning::Found;
 use meaning::Place;
 use stages::run_fits;
 ghost use mathlib.Core.Path.{_≡_};
 ghost use Prim.Native.Nat.{_+_, _≤_};
 ghost use Rattle.meaning.specs.Direct.{lookDirect};
-ghost use Rattle.meaning.specs.Stages.{total, seek};
-ghost use Rattle.codes.specs.Firsts.{Looked, Space, Firsts};
+ghost use Rattle.meaning.specs.Stages.{seek};
+ghost use Rattle.codes.specs.Firsts.{total, Looked, Space, Firsts};
 ghost use Rattle.codes.specs.Started.{totalSays, runSays};
 
 // The sum of the numbers through a place of n.
@@ -77,7 +77,7 @@ pub fn seek_direct(body: &[u8], runs: usize, n: usize, place: Place) -> Run
         match direct::lookup(body, run) {
             Found::Number(x) => {
                 if !run_fits(n, done, x) {
-                    return Run::Refused(FAULT);
+                    return Run::Refused(BROKEN);
                 }
                 done += whole(x);
                 if goal < done {
@@ -90,5 +90,5 @@ pub fn seek_direct(body: &[u8], runs: usize, n: usize, place: Place) -> Run
             }
         }
     }
-    Run::Refused(FAULT)
+    Run::Refused(BROKEN)
 }

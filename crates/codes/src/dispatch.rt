@@ -1,7 +1,7 @@
 // What is done with a code, by its number in document 01.
 use crate::Started;
 use meaning::Bit;
-use meaning::FAULT;
+use meaning::CUT_SHORT;
 use meaning::Offset;
 use meaning::Place;
 use meaning::Position;
@@ -90,7 +90,7 @@ pub fn start_at(code: u8, body: &[u8], n: usize) -> Started
     if code == 4 {
         let controls = n / 4 + (n % 4 + 3) / 4;
         if body.len() < controls {
-            return Started::Refused(FAULT);
+            return Started::Refused(CUT_SHORT);
         }
         let tail = Offset { byte: controls };
         return Started::At(Position {
@@ -105,10 +105,11 @@ pub fn start_at(code: u8, body: &[u8], n: usize) -> Started
         bit,
     };
     if code == 8 {
-        if direct::parts_fit(body) {
-            return Started::At(first);
+        let refusal = direct::parts_refusal(body);
+        if refusal != 0 {
+            return Started::Refused(refusal);
         }
-        return Started::Refused(FAULT);
+        return Started::At(first);
     }
     Started::At(first)
 }

@@ -15,7 +15,7 @@ use crate::stretch::start_refusal;
 use crate::stretch::stretch;
 use crate::stretch::went_refusal;
 use leaves::lesser;
-use meaning::FAULT;
+use meaning::BROKEN;
 use meaning::Found;
 use meaning::Place;
 use stages::Sought;
@@ -25,9 +25,9 @@ ghost use mathlib.Core.Path.{_≡_};
 ghost use Prim.Native.Nat.{_+_, _<_, _≤_};
 ghost use Rattle.meaning.specs.Codes.{codeOf, lookCode};
 ghost use Rattle.meaning.specs.Says.{foundSays};
-ghost use Rattle.meaning.specs.Stages.{total, seek};
+ghost use Rattle.meaning.specs.Stages.{seek};
 ghost use Rattle.codes.specs.Started.{totalSays, runSays};
-ghost use Rattle.codes.specs.Firsts.{Looked, Space, Firsts};
+ghost use Rattle.codes.specs.Firsts.{total, Looked, Space, Firsts};
 
 // The number at a place of n.
 pub fn lookup_code(code: u8, body: &[u8], n: usize, place: Place) -> Found
@@ -173,7 +173,7 @@ pub fn seek_code(code: u8, body: &[u8], runs: usize, n: usize, place: Place) -> 
         return seek_direct(body, runs, n, place);
     }
     if runs == 0 {
-        return Run::Refused(FAULT);
+        return Run::Refused(BROKEN);
     }
     let goal = place.number;
     let started = start_at(code, body, runs);
@@ -207,5 +207,5 @@ pub fn seek_code(code: u8, body: &[u8], runs: usize, n: usize, place: Place) -> 
             }
         }
     }
-    Run::Refused(FAULT)
+    Run::Refused(BROKEN)
 }

@@ -7,7 +7,7 @@ use crate::dispatch::take_units;
 use crate::stretch::or_unit;
 use crate::stretch::start_refusal;
 use crate::stretch::went_refusal;
-use meaning::FAULT;
+use meaning::BROKEN;
 use meaning::Place;
 use meaning::Reading;
 use words::byte_length;
@@ -37,7 +37,7 @@ pub fn read_code(code: u8, body: &[u8], n: usize, work: &mut [u32], from: Place)
             return Reading::Refused(went_refusal(went));
         };
         if byte_length(work[place]) <= spare {
-            return Reading::Refused(FAULT);
+            return Reading::Refused(BROKEN);
         }
         i += taken.count;
         at = taken.next;
@@ -46,5 +46,5 @@ pub fn read_code(code: u8, body: &[u8], n: usize, work: &mut [u32], from: Place)
     if done_at(code, body, at) {
         return Reading::Whole(n);
     }
-    Reading::Refused(FAULT)
+    Reading::Refused(BROKEN)
 }

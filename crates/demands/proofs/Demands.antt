@@ -1,4 +1,4 @@
--- The three demands. Assumes nothing.
+-- The three demands, and which sort of fault. Assumes nothing.
 use Prim.Native.Nat.{ℕ, _*_, _<_}
 use mathlib.Core.Path.{_≡_, refl, sym, ap, _∙_, subst}
 use mathlib.Core.List.{List, [], _∷_, _++_}
@@ -17,9 +17,12 @@ use Rattle.meaning.specs.Sheet.{Column, editionOf, columnAt, readColumn}
 use Rattle.meaning.specs.declared.Reading.{Reading}
 use Rattle.meaning.specs.declared.Counted.{Counted}
 use Rattle.meaning.specs.declared.Counted.the-variants as counted
-use Rattle.meaning.proofs.Answers.{bind-given, need-given, not-given}
+use Rattle.meaning.proofs.Answers.{Faulty, bind-given, need-given, not-given}
 use Rattle.bits.proofs.Unique.{one-rank, one-select}
 use Rattle.judge.proofs.Unique.{one-judge, one-worst-size, one-sized}
+use Rattle.codes.proofs.Numbered.{laws}
+use Rattle.stages.proofs.Faults.{column-faulty}
+use Rattle.stages.proofs.Overruns.{cut-before, broken-behind, stays-broken}
 use Rattle.table.proofs.ColumnLaws.{column-here, column-there}
 use Rattle.table.proofs.Unique.{one-fetch}
 use Rattle.sheet.proofs.Unique.{one-check, one-read, one-lookup, one-board}
@@ -27,7 +30,7 @@ use Rattle.reader.specs.Steps.{Standing, answer, nextPlace, standing, moved}
 use Rattle.reader.specs.declared.Reader.{Reader}
 use Rattle.reader.proofs.Unique.{one-step}
 use Rattle.demands.specs.Contracts.{Checks, Counts, Fetches, Opens, Steps}
-use Rattle.demands.specs.Demands.{Demand1, Demand2, Demand3}
+use Rattle.demands.specs.Demands.{Demand1, Demand2, Demand3, Sorts}
 use Rattle.demands.specs.Own.{ownOrders, ownNumbers, ownKinds, ownPlans, ownCounts}
 use Rattle.demands.specs.Refusals.{refusal}
 use Rattle.demands.proofs.Accepted.{accepted}
@@ -75,18 +78,18 @@ demand-1 =
           by-output (3 ∷ 4 ∷ 7 ∷ 8 ∷ 10 ∷ 11 ∷ []) refl sizedSays m o (apart-refusals edition kinds plans counts joined (length work) (length o))
           (λ r s. one-sized r s (amount m));
       checking = λ sheet work.
-          by-verdict (1 ∷ 2 ∷ 3 ∷ 4 ∷ 8 ∷ 9 ∷ []) refl (Checks sheet work) (λ r. refusal (checkedSays r)) (check sheet (length work)) (λ r. Unit {0})
+          by-verdict (1 ∷ 2 ∷ 3 ∷ 4 ∷ 8 ∷ 9 ∷ 13 ∷ []) refl (Checks sheet work) (λ r. refusal (checkedSays r)) (check sheet (length work)) (λ r. Unit {0})
           (check-refusals sheet (length work)) (one-check sheet (length work)) (λ r t. ap refusal t) (λ r t l. tt);
       reading = λ sheet k work o.
-          by-output (1 ∷ 2 ∷ 3 ∷ 4 ∷ 5 ∷ 7 ∷ 8 ∷ 9 ∷ []) refl readingSays (readSheet sheet k (length work) (length o)) o
+          by-output (1 ∷ 2 ∷ 3 ∷ 4 ∷ 5 ∷ 7 ∷ 8 ∷ 9 ∷ 13 ∷ []) refl readingSays (readSheet sheet k (length work) (length o)) o
           (read-refusals sheet k (length work) (length o)) (one-reading sheet k (length work) o);
       looking = λ sheet k place.
-          by-answer (1 ∷ 2 ∷ 3 ∷ 4 ∷ 5 ∷ 6 ∷ 9 ∷ []) refl foundSays (lookSheet sheet k place) (lookup-refusals sheet k place) (one-lookup sheet k place);
+          by-answer (1 ∷ 2 ∷ 3 ∷ 4 ∷ 5 ∷ 6 ∷ 9 ∷ 13 ∷ []) refl foundSays (lookSheet sheet k place) (lookup-refusals sheet k place) (one-lookup sheet k place);
       fetching = λ sheet k.
           by-number (1 ∷ 2 ∷ 3 ∷ 4 ∷ 5 ∷ []) refl (Fetches sheet k) (λ a. a .1) (fetch sheet k) (λ a. a .0 ≡ []) (fetch-refusals sheet k)
           (λ a b s t. both a b (one-fetch sheet k (a .0) (b .0) (a .1) (b .1) s t)) (λ a t. t .1) (λ a t l. t .0 ∙ refused-empty (fetch sheet k) l);
       counting = λ sheet work.
-          by-verdict (1 ∷ 2 ∷ 3 ∷ 4 ∷ 8 ∷ 9 ∷ 12 ∷ []) refl (Counts sheet work) (λ r. refusal (countedSays r .0)) (countBoard sheet (length work) .0)
+          by-verdict (1 ∷ 2 ∷ 3 ∷ 4 ∷ 8 ∷ 9 ∷ 12 ∷ 13 ∷ []) refl (Counts sheet work) (λ r. refusal (countedSays r .0)) (countBoard sheet (length work) .0)
           (λ r. countedSays r .1 ≡ noTally) (board-refusals sheet (length work)) (one-board sheet (length work)) (λ r t. ap (λ x. refusal (x .0)) t)
           (λ r t l. bare-board r l);
       opening = λ sheet k.
@@ -94,7 +97,7 @@ demand-1 =
           (λ a b s t. both a b (s .0 ∙ sym (t .0), s .1 ∙ sym (t .1))) (λ a t. t .1)
           (λ a t l. ap (λ (s : Standing). s .part) (t .0) ∙ refused-empty (openReader sheet k) l);
       stepping = λ r.
-          by-number (1 ∷ 2 ∷ 3 ∷ 4 ∷ 5 ∷ 6 ∷ 9 ∷ []) refl (Steps r) (λ a. number (foundSays (a .0))) (answer (standing r)) (λ a. a .1 ≡ r)
+          by-number (1 ∷ 2 ∷ 3 ∷ 4 ∷ 5 ∷ 6 ∷ 9 ∷ 13 ∷ []) refl (Steps r) (λ a. number (foundSays (a .0))) (answer (standing r)) (λ a. a .1 ≡ r)
           (lookup-refusals (standing r .part) (standing r .column) (standing r .place))
           (λ a b s t. both a b (one-step r (a .1) (b .1) (a .0) (b .0) s t)) (λ a t. ap number (t .0)) (λ a t l. t .1 ∙ stands-still r l);
       ranking = λ bytes bit. by-answer (1 ∷ 6 ∷ []) refl rankedSays (rank bytes bit) (rank-refusals bytes bit) (one-rank bytes bit);
@@ -150,4 +153,14 @@ demand-3 =
     record {
       neverStuck = carries;
       anySheet = λ sheet p k there. column-holds sheet (p .bytes) (length (p .passes .0)) (sym (p .passes .1)) k there;
+    }
+
+-- ---- which sort of fault
+pub sorts : Sorts
+sorts =
+    record {
+      two = λ c e h. subst Faulty h (column-faulty laws c);
+      early = λ c xs h k l. cut-before laws c xs k h l;
+      onward = λ c xs h b more. broken-behind laws c xs b more h;
+      stays = λ c h b more. stays-broken laws c b more h;
     }

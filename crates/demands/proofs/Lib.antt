@@ -5,7 +5,6 @@ pub mod Accepted
 pub mod Kept
 pub mod Rewritten
 pub mod Outputs
-pub mod Faults
 pub mod Refusals
 pub mod WrittenBytes
 pub mod Contracts

@@ -3,6 +3,7 @@ use Prim.Native.Nat.{ℕ, zero, suc, _*_}
 use mathlib.Core.Path.{_≡_, refl, sym, ap, _∙_, subst}
 use mathlib.Core.Bool.{Bool, true, false, _&&_, _||_}
 use mathlib.Core.List.{List, [], _∷_, map}
+use mathlib.Core.Logic.{inl, inr}
 use native.Mathlib.Omega.{arith}
 use lib.Dec.{leb, ltb, eqb}
 use lib.ListN.{length}
@@ -10,7 +11,7 @@ use borrow.Author.Tests.{eqb-true, leb-true}
 use Rattle.meaning.specs.Answer.{Answer, given, refused, bind, need, number, Verdict, passed, blamed, _then_, ask, inTurn, after}
 use Rattle.meaning.specs.Bits.{lowBits}
 use Rattle.meaning.specs.Limits.{mostNumbers, mostBytes, rising}
-use Rattle.meaning.specs.Limits.{noSheet, badTable, badPlan, unfitPlan, noColumn, noPlace, noRoom, shortWork, fault, fallen, badOrders, badBoard}
+use Rattle.meaning.specs.Limits.{noSheet, badTable, badPlan, unfitPlan, noColumn, noPlace, noRoom, shortWork, cutShort, fallen, badOrders, badBoard, broken}
 use Rattle.meaning.specs.Lists.{all, largest}
 use Rattle.meaning.specs.Operations.{Order, listedBy, ordersHold, ordersOf, column, numbersAt, boardHolds, boardVerdict, tallied}
 use Rattle.meaning.specs.Operations.{writeListed, writeSheet, writeApart, check, readSheet, lookSheet, fetch, openReader, countBoard}
@@ -20,10 +21,11 @@ use Rattle.meaning.specs.Sheet.{isEdition, Listed, sheetBytes, Column, columnsO
 use Rattle.meaning.specs.Stages.{look}
 use Rattle.meaning.proofs.Answers.{Faulty}
 use Rattle.meaning.proofs.Tests.{both-true, by-test}
+use Rattle.codes.proofs.Numbered.{laws}
 use Rattle.table.proofs.InTurn.{turn-passed, turn-refused}
 use Rattle.writer.specs.Orders.{listJudged, listRises, longTogether}
 use Rattle.demands.specs.Refusals.{among, RefusesBy, BlamesBy, refusal}
-use Rattle.demands.proofs.Faults.{column-faulty, look-faulty}
+use Rattle.stages.proofs.Faults.{column-faulty, look-faulty}
 
 -- ---- what may refuse, part by part
 module _ (es : List ℕ) where
@@ -43,9 +45,11 @@ module _ (es : List ℕ) where
   one-by e i zero (suc b ∷ bits) = tt
   one-by e i (suc k) (suc b ∷ bits) = by-bind (oneAt e k bits) _ (one-by e i k bits) (λ j. tt)
 
-  by-fault : {A : Type 0} (m : Answer A) → among fault es ≡ true → Faulty m → RefusesBy es m
-  by-fault (given a) i h = tt
-  by-fault (refused e) i h = ap (λ (k : ℕ). among k es) h ∙ i
+  -- a fault of a body, of either sort
+  by-fault : {A : Type 0} (m : Answer A) → among cutShort es ≡ true → among broken es ≡ true → Faulty m → RefusesBy es m
+  by-fault (given a) i j h = tt
+  by-fault (refused e) i j (inl h) = ap (λ (k : ℕ). among k es) h ∙ i
+  by-fault (refused e) i j (inr h) = ap (λ (k : ℕ). among k es) h ∙ j
 
   by-after : {A : Type 0} (v : Verdict) (m : Answer A) → BlamesBy es v → RefusesBy es m → RefusesBy es (after v m)
   by-after passed m h k = k
@@ -84,12 +88,12 @@ module _ (es : List ℕ) where
     unfolding column
     column-by five k = by-after (sound sheet) _ sound-by (by-need (ltb k (length (columnsOf sheet))) noColumn _ five tt)
 
-    check-by : among shortWork es ≡ true → among fault es ≡ true → (work : ℕ) → BlamesBy es (check sheet work)
+    check-by : among shortWork es ≡ true → among cutShort es ≡ true → among broken es ≡ true → (work : ℕ) → BlamesBy es (check sheet work)
     unfolding check checkColumn
-    check-by eight nine work =
+    check-by eight nine thirteen work =
         by-then (sound sheet) _ sound-by
         (by-then (ask (leb (8 * largestCount sheet) work) shortWork) _ (by-ask (leb (8 * largestCount sheet) work) shortWork eight)
-        (by-turn checkColumn (λ c. by-fault (readColumn c) nine (column-faulty c)) 0 (columnsOf sheet)))
+        (by-turn checkColumn (λ c. by-fault (readColumn c) nine thirteen (column-faulty laws c)) 0 (columnsOf sheet)))
 
 -- ---- the operations
 pub judge-refusals : (kind : ℕ) (plan : List ℕ) → RefusesBy (3 ∷ 4 ∷ 11 ∷ []) (judge kind plan)
@@ -129,22 +133,23 @@ unfolding writeApart among
 apart-refusals edition kinds plans counts numbers work room =
     by-need writing (longTogether kinds plans counts) badOrders _ refl (write-refusals edition (ordersOf kinds plans counts) numbers work room)
 
-pub check-refusals : (sheet : List ℕ) (work : ℕ) → BlamesBy (1 ∷ 2 ∷ 3 ∷ 4 ∷ 8 ∷ 9 ∷ []) (check sheet work)
+pub check-refusals : (sheet : List ℕ) (work : ℕ) → BlamesBy (1 ∷ 2 ∷ 3 ∷ 4 ∷ 8 ∷ 9 ∷ 13 ∷ []) (check sheet work)
 unfolding among
-check-refusals sheet work = check-by _ refl refl refl refl sheet refl refl work
+check-refusals sheet work = check-by _ refl refl refl refl sheet refl refl refl work
 
-pub read-refusals : (sheet : List ℕ) (k work room : ℕ) → RefusesBy (1 ∷ 2 ∷ 3 ∷ 4 ∷ 5 ∷ 7 ∷ 8 ∷ 9 ∷ []) (readSheet sheet k work room)
+pub read-refusals : (sheet : List ℕ) (k work room : ℕ) → RefusesBy (1 ∷ 2 ∷ 3 ∷ 4 ∷ 5 ∷ 7 ∷ 8 ∷ 9 ∷ 13 ∷ []) (readSheet sheet k work room)
 unfolding readSheet among
 read-refusals sheet k work room =
     by-bind _ (column sheet k) _ (column-by _ refl refl refl refl sheet refl k) (λ c.
-    by-need _ (leb (7 * c .count) work) shortWork _ refl (by-need _ (leb (c .count) room) noRoom _ refl (by-fault _ (readColumn c) refl (column-faulty c))))
+    by-need _ (leb (7 * c .count) work) shortWork _ refl
+    (by-need _ (leb (c .count) room) noRoom _ refl (by-fault _ (readColumn c) refl refl (column-faulty laws c))))
 
-pub lookup-refusals : (sheet : List ℕ) (k place : ℕ) → RefusesBy (1 ∷ 2 ∷ 3 ∷ 4 ∷ 5 ∷ 6 ∷ 9 ∷ []) (lookSheet sheet k place)
+pub lookup-refusals : (sheet : List ℕ) (k place : ℕ) → RefusesBy (1 ∷ 2 ∷ 3 ∷ 4 ∷ 5 ∷ 6 ∷ 9 ∷ 13 ∷ []) (lookSheet sheet k place)
 unfolding lookSheet among
 lookup-refusals sheet k place =
     by-bind _ (column sheet k) _ (column-by _ refl refl refl refl sheet refl k) (λ c.
     let p = planOf (c .plan) in
-    by-need _ (ltb place (c .count)) noPlace _ refl (by-fault _ (look p (c .body) (c .count) place) refl (look-faulty p (c .body) (c .count) place)))
+    by-need _ (ltb place (c .count)) noPlace _ refl (by-fault _ (look p (c .body) (c .count) place) refl refl (look-faulty laws p (c .body) (c .count) place)))
 
 pub fetch-refusals : (sheet : List ℕ) (k : ℕ) → RefusesBy (1 ∷ 2 ∷ 3 ∷ 4 ∷ 5 ∷ []) (fetch sheet k)
 unfolding fetch among
@@ -158,11 +163,11 @@ tallied-by : (es : List ℕ) (v : Verdict) (endings : List ℕ) → BlamesBy es 
 tallied-by es passed endings h = tt
 tallied-by es (blamed e k) endings h = h
 
-pub board-refusals : (sheet : List ℕ) (work : ℕ) → BlamesBy (1 ∷ 2 ∷ 3 ∷ 4 ∷ 8 ∷ 9 ∷ 12 ∷ []) (countBoard sheet work .0)
+pub board-refusals : (sheet : List ℕ) (work : ℕ) → BlamesBy (1 ∷ 2 ∷ 3 ∷ 4 ∷ 8 ∷ 9 ∷ 12 ∷ 13 ∷ []) (countBoard sheet work .0)
 unfolding countBoard boardVerdict among
 board-refusals sheet work =
     tallied-by _ (boardVerdict sheet work) (numbersAt sheet 1)
-    (by-then _ (check sheet work) _ (check-by _ refl refl refl refl sheet refl refl work) (by-ask _ (boardHolds sheet) badBoard refl))
+    (by-then _ (check sheet work) _ (check-by _ refl refl refl refl sheet refl refl refl work) (by-ask _ (boardHolds sheet) badBoard refl))
 
 -- ---- number 0 says accepted
 among-some : (e : ℕ) (es : List ℕ) → all (leb 1) es ≡ true → among e es ≡ true → e ≡ 0 → ⊥

@@ -15,9 +15,10 @@ use Prim.Native.Nat.{ℕ, suc, _*_, _≤_, _<_}
 use mathlib.Core.Path.{_≡_}
 use mathlib.Core.Bool.{true}
 use mathlib.Core.List.{List, [], _∷_, _++_, map}
+use mathlib.Core.Logic.{_⊎_}  -- one or the other
 use lib.ListN.{length, getD, take, drop}
-use Rattle.meaning.specs.Answer.{given, number, Verdict, passed, inTurn}  -- it gives; its refusal's number, 0 for none; a verdict; no refusal; each in turn
-use Rattle.meaning.specs.Limits.{numberLimit, mostBytes, planBytes}  -- 2^32, 65,536 and 15
+use Rattle.meaning.specs.Answer.{given, refused, number, Verdict, passed, inTurn}  -- it gives; refuses; its number, 0 for none; a verdict; none; each in turn
+use Rattle.meaning.specs.Limits.{numberLimit, mostBytes, planBytes, cutShort, broken}  -- 2^32, 65,536 and 15; refusals 9 and 13
 use Rattle.meaning.specs.Lists.{all, largest}  -- a test holds of all; the largest number
 use Rattle.meaning.specs.Operations.{Order, listedBy, ordersHold, ordersOf}  -- an order; the columns ordered; orders hold; slices taken apart as orders
 use Rattle.meaning.specs.Operations.{numbersAt, noTally}  -- column k's list, by the defined reading; zeros
@@ -29,6 +30,8 @@ use Rattle.meaning.specs.Says.{judgedSays, sizedSays, readingSays, foundSays, c
 use Rattle.meaning.specs.Says.{rankedSays, selectedSays}
 use Rattle.meaning.specs.Sheet.{isEdition, ofKind, sheetBytes, worstSheet}  -- 1 or 2; a list is of a kind; the defined bytes of columns; their worst size
 use Rattle.meaning.specs.Sheet.{editionOf, columnsOf, columnAt, readColumn, largestCount}  -- byte 0; its columns; column k; one read strictly; largest count
+use Rattle.meaning.specs.Sheet.{Column}  -- a column: its kind, its plan, its count, its body
+use Rattle.stages.specs.Bodies.{withBody}  -- a column with another body
 use Rattle.writer.specs.Orders.{blankListed}  -- what stands for a column that is not there
 use Rattle.demands.specs.Contracts.{Judges, Sizes, Writes, WritesApart, Checks, Reads, Looks, Counts, Fetches, Opens, Steps, Ranks, Selects}
 use Rattle.demands.specs.Contracts.{Sized, Reading, Found, Checked, Reader, standing, answer}  -- answers; a reader, where it stands, what it tells next
@@ -55,17 +58,17 @@ pub record Demand1 : Type 0 where  -- the public operations
       → Answers (WritesApart edition kinds plans counts joined work o) (λ a. number (sizedSays (a .0)))
       (verdictOf (writeApart edition kinds plans counts joined (length work) (length o))) (3 ∷ 4 ∷ 7 ∷ 8 ∷ 10 ∷ 11 ∷ []) (λ a. a .1 ≡ o)
   pub checking : (sheet work : List ℕ)
-      → Answers (Checks sheet work) (λ r. refusal (checkedSays r)) (check sheet (length work)) (1 ∷ 2 ∷ 3 ∷ 4 ∷ 8 ∷ 9 ∷ []) (λ r. Unit {0})
+      → Answers (Checks sheet work) (λ r. refusal (checkedSays r)) (check sheet (length work)) (1 ∷ 2 ∷ 3 ∷ 4 ∷ 8 ∷ 9 ∷ 13 ∷ []) (λ r. Unit {0})
   pub reading : (sheet : List ℕ) (k : ℕ) (work o : List ℕ) → Answers (Reads sheet k work o) (λ a. number (readingSays (a .0)))
-      (verdictOf (readSheet sheet k (length work) (length o))) (1 ∷ 2 ∷ 3 ∷ 4 ∷ 5 ∷ 7 ∷ 8 ∷ 9 ∷ []) (λ a. a .1 ≡ o)
+      (verdictOf (readSheet sheet k (length work) (length o))) (1 ∷ 2 ∷ 3 ∷ 4 ∷ 5 ∷ 7 ∷ 8 ∷ 9 ∷ 13 ∷ []) (λ a. a .1 ≡ o)
   pub looking : (sheet : List ℕ) (k place : ℕ)
-      → Answers (Looks sheet k place) (λ r. number (foundSays r)) (verdictOf (lookSheet sheet k place)) (1 ∷ 2 ∷ 3 ∷ 4 ∷ 5 ∷ 6 ∷ 9 ∷ []) (λ r. Unit {0})
+      → Answers (Looks sheet k place) (λ r. number (foundSays r)) (verdictOf (lookSheet sheet k place)) (1 ∷ 2 ∷ 3 ∷ 4 ∷ 5 ∷ 6 ∷ 9 ∷ 13 ∷ []) (λ r. Unit {0})
   pub fetching : (sheet : List ℕ) (k : ℕ) → Answers (Fetches sheet k) (λ a. a .1) (verdictOf (fetch sheet k)) (1 ∷ 2 ∷ 3 ∷ 4 ∷ 5 ∷ []) (λ a. a .0 ≡ [])
   pub counting : (sheet work : List ℕ) → Answers (Counts sheet work) (λ r. refusal (countedSays r .0)) (countBoard sheet (length work) .0)
-      (1 ∷ 2 ∷ 3 ∷ 4 ∷ 8 ∷ 9 ∷ 12 ∷ []) (λ r. countedSays r .1 ≡ noTally)
+      (1 ∷ 2 ∷ 3 ∷ 4 ∷ 8 ∷ 9 ∷ 12 ∷ 13 ∷ []) (λ r. countedSays r .1 ≡ noTally)
   pub opening : (sheet : List ℕ) (k : ℕ) → Answers (Opens sheet k) (λ a. a .1) (verdictOf (openReader sheet k)) (1 ∷ 2 ∷ 3 ∷ 4 ∷ 5 ∷ []) (λ a. a .0 .part ≡ [])
   pub stepping : (s : Reader) → Answers (Steps s) (λ a. number (foundSays (a .0))) (verdictOf (answer (standing s)))
-      (1 ∷ 2 ∷ 3 ∷ 4 ∷ 5 ∷ 6 ∷ 9 ∷ []) (λ a. a .1 ≡ s)
+      (1 ∷ 2 ∷ 3 ∷ 4 ∷ 5 ∷ 6 ∷ 9 ∷ 13 ∷ []) (λ a. a .1 ≡ s)
   pub ranking : (bytes : List ℕ) (bit : ℕ)
       → Answers (Ranks bytes bit) (λ r. number (rankedSays r)) (verdictOf (rank bytes bit)) (1 ∷ 6 ∷ []) (λ r. Unit {0})
   pub selecting : (bytes : List ℕ) (k : ℕ)
@@ -133,3 +136,15 @@ pub record Demand3 : Type 0 where
   pub anySheet : (sheet : List ℕ) → Passing sheet → (k : ℕ) → k < length (columnsOf sheet)
       → (readColumn (columnAt sheet k) ≡ given (numbersAt sheet k)) × (length (numbersAt sheet k) ≡ columnAt sheet k .count)
       × (ofKind (editionOf sheet) (columnAt sheet k .kind) (numbersAt sheet k) ≡ true) × Holds sheet k (numbersAt sheet k)
+
+-- ---- WHICH SORT (request P5). Where a column's body is refused, 9 says that it is cut short and 13 that another rule is broken, under every plan and count.
+pub record Sorts : Type 0 where
+  pub two : (c : Column) (e : ℕ) → readColumn c ≡ refused e → (e ≡ cutShort) ⊎ (e ≡ broken)  -- there is no third
+  -- a body that is read, as far as its first k bytes, is cut short;
+  pub early : (c : Column) (xs : List ℕ) → readColumn c ≡ given xs → (k : ℕ) → k < length (c .body)
+      → readColumn (withBody c (take k (c .body))) ≡ refused cutShort
+  -- with one byte or more behind it, it is broken;
+  pub onward : (c : Column) (xs : List ℕ) → readColumn c ≡ given xs → (b : ℕ) (more : List ℕ)
+      → readColumn (withBody c (c .body ++ (b ∷ more))) ≡ refused broken
+  -- and what is broken no byte behind it mends
+  pub stays : (c : Column) → readColumn c ≡ refused broken → (b : ℕ) (more : List ℕ) → readColumn (withBody c (c .body ++ (b ∷ more))) ≡ refused broken

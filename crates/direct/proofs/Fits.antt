@@ -1,18 +1,18 @@
 -- What it says of a body that the parts of d data bytes fit it: where they end, and which byte has a data byte's bit. Assumes nothing.
 use Prim.Native.Nat.{ℕ, _+_, _-_, _*_, _/_, _%_, _^_, _≤_, _<_}
 use mathlib.Core.Path.{_≡_, refl, sym, ap, _∙_}
-use mathlib.Core.Bool.{Bool, true, false}
+use mathlib.Core.Bool.{Bool, true, false, cond}
 use mathlib.Core.List.{List}
 use native.Mathlib.Omega.{arith}
 use lib.Dec.{leb}
 use lib.ListN.{length, getD, take, drop, length-drop}
 use lib.Seq.{getD-take, getD-drop, drop-drop, drop-at, take-add, length-take-le}
 use borrow.Author.Tests.{leb-true, le-leb, lt-leb}
-use Rattle.meaning.specs.Answer.{given, refused, need}
+use Rattle.meaning.specs.Answer.{given, refused, need, number}
 use Rattle.meaning.specs.Bits.{lowBits}
 use Rattle.meaning.specs.Bytes.{wordAt}
 use Rattle.meaning.specs.Direct.{flagBytes, sumCount, sumsAt, dataAt, partsFit, flags}
-use Rattle.meaning.specs.Limits.{fault}
+use Rattle.meaning.specs.Limits.{cutShort}
 use Rattle.meaning.specs.Places.{Below}
 use Rattle.meaning.proofs.Answers.{not-given, need-given}
 use Rattle.meaning.proofs.Bounds.{below-take}
@@ -39,21 +39,34 @@ module _ (body : List ℕ) where
     head-fits h = rw (le-leb 4 (length body) head, ← is) (le-leb (dataAt d + d) (length body) h)
 
   -- what a heading says
-  module _ {h : Heading} (told : headingSays h ≡ need (partsFit body) fault (given (wordAt body 0))) where
+  module _ {h : Heading} (told : headingSays h ≡ need (partsFit body) cutShort (given (wordAt body 0))) where
     pub heading-fits : {d : ℕ} → h ≡ heading.Data d → Fit body d
     heading-fits {d} e =
-        let (fits, q) = need-given (partsFit body) fault (given (wordAt body 0)) d (sym told ∙ ap headingSays e) in
+        let (fits, q) = need-given (partsFit body) cutShort (given (wordAt body 0)) d (sym told ∙ ap headingSays e) in
         let is : wordAt body 0 ≡ d = cc in
         record { fits = fits; is = sym is }
 
-    pub heading-none : {e : ℕ} → h ≡ heading.Refused e → (partsFit body ≡ false) × (headRefusal h ≡ fault)
+    pub heading-none : {e : ℕ} → h ≡ heading.Refused e → (partsFit body ≡ false) × (headRefusal h ≡ cutShort)
     heading-none {e} q =
         let (unfit, is) = none (partsFit body) (wordAt body 0) e (sym told ∙ ap headingSays q) in
         (unfit, ap headRefusal q ∙ is)
       where
-        none : (b : Bool) (x r : ℕ) → need b fault (given x) ≡ refused r → (b ≡ false) × (r ≡ fault)
+        none : (b : Bool) (x r : ℕ) → need b cutShort (given x) ≡ refused r → (b ≡ false) × (r ≡ cutShort)
         none true x r q = absurd (not-given r x (sym q))
-        none false x r q = let is : fault ≡ r = cc in (refl, sym is)
+        none false x r q = let is : cutShort ≡ r = cc in (refl, sym is)
+
+  -- its refusal; the heading is explicit, since the result is by cases on it
+  pub heading-refusal : (h : Heading) → headingSays h ≡ need (partsFit body) cutShort (given (wordAt body 0))
+      → headRefusal h ≡ cond (partsFit body) 0 cutShort
+  heading-refusal h told = says h ∙ ap number told ∙ needs (partsFit body)
+    where
+      says : (h : Heading) → headRefusal h ≡ number (headingSays h)
+      says (heading.Data d) = refl
+      says (heading.Refused e) = refl
+
+      needs : (b : Bool) → number (need b cutShort (given (wordAt body 0))) ≡ cond b 0 cutShort
+      needs true = refl
+      needs false = refl
 
 -- ---- where the parts end
 pub record Standing (body : List ℕ) (d : ℕ) : Type 0 where

@@ -15,12 +15,12 @@ use Rattle.meaning.specs.Bytes.{numberOf, wordAt}
 use Rattle.meaning.specs.Codes.{always}
 use Rattle.meaning.specs.DataBytes.{byteLength, fewest, dataBytes, dataIn}
 use Rattle.meaning.specs.Direct.{flagBytes, sumCount, sumsAt, dataAt, lastBits, partsFit, flags, numberIn, unitDirect, trueSums, spareZero, doneDirect}
-use Rattle.meaning.specs.Limits.{fault, numberLimit}
+use Rattle.meaning.specs.Limits.{cutShort, broken, numberLimit}
 use Rattle.meaning.specs.Lists.{sum, joined}
 use Rattle.meaning.specs.Places.{Below}
 use Rattle.meaning.specs.Positions.{atBit}
 use Rattle.meaning.specs.declared.Position.{Position}
-use Rattle.meaning.proofs.Answers.{Faulty, bind-given, need-given, bind-faulty, need-faulty}
+use Rattle.meaning.proofs.Answers.{Faulty, a-break, bind-given, need-given, need-faulty}
 use Rattle.meaning.proofs.Bounds.{below-nil, below-cons, below-take, below-drop}
 use Rattle.meaning.proofs.Tests.{both-true}
 use Rattle.meaning.proofs.Units.{Good, Whole}
@@ -66,8 +66,8 @@ unfolding unitDirect
 one body left p u e =
     let i = p .bit .index in
     let l = sizeAt body i in
-    let (fit, e₁) = need-given (partsFit body) fault _ u e in
-    let (fits, e₂) = need-given (leb (i + l) (wordAt body 0)) fault _ u e₁ in
+    let (fit, e₁) = need-given (partsFit body) cutShort _ u e in
+    let (fits, e₂) = need-given (leb (i + l) (wordAt body 0)) broken _ u e₁ in
     let (x, ex, eu) = bind-given (numberIn body i l) _ u e₂ in
     record { number = x; fit = fit; inside = leb-true (i + l) (wordAt body 0) fits; is = cc; read = ex }
 
@@ -80,15 +80,7 @@ good body =
 
 pub number-faulty : (body : List ℕ) (i l : ℕ) → Faulty (numberIn body i l)
 unfolding numberIn
-number-faulty body i l = need-faulty (leb l 4) _ (need-faulty (eqb (byteLength _) l) _ tt)
-
-pub unit-faulty : (body : List ℕ) (left : ℕ) (p : Position) → Faulty (unitDirect body left p)
-unfolding unitDirect
-unit-faulty body left p =
-    let i = p .bit .index in
-    need-faulty (partsFit body) _
-    (need-faulty (leb (i + sizeAt body i) (wordAt body 0)) _
-    (bind-faulty (numberIn body i (sizeAt body i)) _ (number-faulty body i (sizeAt body i)) (λ x. tt)))
+number-faulty body i l = need-faulty (leb l 4) broken _ a-break (need-faulty (eqb (byteLength _) l) broken _ a-break tt)
 
 -- ---- a number in data bytes, written and read
 pub number-there : (body : List ℕ) (i x : ℕ) (rest : List ℕ) → drop (dataAt (wordAt body 0) + i) body ≡ fewest x ++ rest → x < numberLimit
@@ -110,8 +102,8 @@ unfolding numberIn dataIn sum dataBytes joined
 numbered body i l x b h e =
     let bytes = drop (dataAt (wordAt body 0) + i) body in
     let y = numberOf (take l bytes) in
-    let (few, e₁) = need-given (leb l 4) fault _ x e in
-    let (size, e₂) = need-given (eqb (byteLength y) l) fault (given y) x e₁ in
+    let (few, e₁) = need-given (leb l 4) broken _ x e in
+    let (size, e₂) = need-given (eqb (byteLength y) l) broken (given y) x e₁ in
     let same : y ≡ x = cc in
     let one-data : dataIn (l ∷ []) bytes ≡ given (y ∷ []) = rw size in
     let t = data-back (l ∷ []) bytes (y ∷ []) (below-drop 256 (dataAt (wordAt body 0) + i) body b)
@@ -157,7 +149,7 @@ ends body p h =
     let at : p .bit .index ≡ d = omega (arith, h .inside, body-flags body (h .closed .fit)) in
     rw (h .closed .fit, eq-eqb (p .bit .index) d at, eq-eqb (dataAt d + d) (length body) (h .closed .whole), h .closed .spare, h .closed .sums)
 
-ended : (body : List ℕ) (p : Position) → doneDirect body p ≡ true → Holds body (p .bit .index) []
+pub ended : (body : List ℕ) (p : Position) → doneDirect body p ≡ true → Holds body (p .bit .index) []
 unfolding doneDirect joined dataBytes
 ended body p e =
     let d = wordAt body 0 in

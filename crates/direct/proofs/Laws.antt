@@ -1,26 +1,28 @@
 -- Code 8 is lawful: what it writes reads back, what it reads is what would be written, its size is as told, and a number is found directly. Assumes nothing.
 use Prim.Native.Nat.{ℕ, _+_, _/_, _≤_}
 use mathlib.Core.Path.{_≡_, subst}
-use mathlib.Core.List.{List, []}
+use mathlib.Core.List.{List, [], _++_}
 use native.Mathlib.Omega.{arith}
 use lib.ListN.{length}
 use Rattle.meaning.specs.Answer.{given}
 use Rattle.meaning.specs.Codes.{codeDirect, readCode, always}
 use Rattle.meaning.specs.DataBytes.{dataBytes}
 use Rattle.meaning.specs.Direct.{flagBytes, sumCount, sumsAt, dataAt, lastBits, writeDirect, worstDirect, partsFit, unitDirect, doneDirect, lookDirect}
-use Rattle.meaning.specs.Limits.{fault, numberLimit, mostNumbers}
+use Rattle.meaning.specs.Limits.{cutShort, numberLimit, mostNumbers}
 use Rattle.meaning.specs.Lists.{joined}
 use Rattle.meaning.specs.Places.{Below}
 use Rattle.meaning.specs.Positions.{atBit}
 use Rattle.meaning.specs.declared.Position.{Position}
-use Rattle.meaning.proofs.Answers.{bind-given, need-given, need-faulty}
+use Rattle.meaning.proofs.Answers.{bind-given, need-given}
 use Rattle.meaning.proofs.Codes.{spare-always}
+use Rattle.meaning.proofs.Lasting.{lasts-given, lasts-there}
 use Rattle.meaning.proofs.Lawful.{Lawful, Read, Direct}
 use Rattle.meaning.proofs.Units.{read-many, read-written, read-holds}
 use Rattle.words.proofs.DataBytes.{data-most}
-use Rattle.direct.proofs.Holding.{good, unit-faulty, Holds, HoldsAt, whole}
+use Rattle.direct.proofs.Holding.{good, Holds, HoldsAt, whole}
 use Rattle.direct.proofs.Written.{parts-length, written-holds, written-small, holds-written}
 use Rattle.direct.proofs.Lookups.{look-faulty, look-holds}
+use Rattle.direct.proofs.Followed.{fits-still, unit-lasts, over}
 
 forth : (xs : List ℕ) → length xs ≤ mostNumbers → Below numberLimit xs → readCode codeDirect (writeDirect xs) (length xs) ≡ given xs
 unfolding readCode
@@ -39,7 +41,7 @@ reads : (body : List ℕ) (n : ℕ) (xs : List ℕ) → Below 256 body → readC
 unfolding readCode
 reads body n xs b e =
     let (p, ep, er) = bind-given (codeDirect .start body n) _ xs e in
-    let (fit, eq) = need-given (partsFit body) fault (given (atBit 0)) p ep in
+    let (fit, eq) = need-given (partsFit body) cutShort (given (atBit 0)) p ep in
     let at : p ≡ atBit 0 = cc in
     let h = read-holds (unitDirect body) always (doneDirect body) (good body) (HoldsAt body) (whole body b) n [] p xs er in
     record {
@@ -75,8 +77,10 @@ unfolding worstDirect
 lawful =
     record {
       good = λ body b. good body;
-      begins = λ body n. need-faulty (partsFit body) _ tt;
-      faulty = unit-faulty;
+      inside = λ body p. partsFit body;
+      starts = λ body more n. lasts-there (partsFit body) (partsFit (body ++ more)) _ _ (fits-still body more) (λ fit. lasts-given (atBit 0) fit);
+      units = unit-lasts;
+      over = over;
       fresh = spare-always [];
       forth = forth;
       back = back;

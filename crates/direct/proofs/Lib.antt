@@ -6,6 +6,7 @@ pub mod Holding
 pub mod Written
 pub mod Writing
 pub mod Lookups
+pub mod Followed
 pub mod Laws
 pub mod Fits
 pub mod Zeros

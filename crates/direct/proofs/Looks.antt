@@ -10,7 +10,7 @@ use borrow.Author.Tests.{lt-ltb, le-ltb}
 use Rattle.meaning.specs.Answer.{given, refused, bind}
 use Rattle.meaning.specs.Bits.{lowBits}
 use Rattle.meaning.specs.Direct.{sumCount, partsFit, sumAt, stretchFrom, stretchOf, endedBefore, stretchBits, endingAt, lookDirect}
-use Rattle.meaning.specs.Limits.{fault, noPlace}
+use Rattle.meaning.specs.Limits.{cutShort, broken, noPlace}
 use Rattle.meaning.specs.Lists.{sum}
 use Rattle.meaning.specs.Places.{Below}
 use Rattle.meaning.specs.Rank.{onesBefore, oneAt}
@@ -79,22 +79,22 @@ module _ (bits : List ℕ) (low : Below 2 bits) (k m n : ℕ) (h : m ≤ n) wher
   some-below = below-take 2 n bits low
 
   -- one that is found is among them, or behind them; where none is found there is none
-  one-here : {i : ℕ} → oneAt noPlace k (take n bits) ≡ given i → i < m → oneAt fault k (take m bits) ≡ given i
+  one-here : {i : ℕ} → oneAt noPlace k (take n bits) ≡ given i → i < m → oneAt broken k (take m bits) ≡ given i
   one-here {i} q l =
-      rw firsts at (one-among fault k (take n bits) i some-below (one-given noPlace fault k (take n bits) i some-below q) m l)
+      rw firsts at (one-among broken k (take n bits) i some-below (one-given noPlace broken k (take n bits) i some-below q) m l)
 
-  one-behind : {i : ℕ} → oneAt noPlace k (take n bits) ≡ given i → m ≤ i → oneAt fault k (take m bits) ≡ refused fault
+  one-behind : {i : ℕ} → oneAt noPlace k (take n bits) ≡ given i → m ≤ i → oneAt broken k (take m bits) ≡ refused broken
   one-behind {i} q l =
-      rw firsts at (one-beyond fault k (take n bits) i some-below (one-given noPlace fault k (take n bits) i some-below q) m l)
+      rw firsts at (one-beyond broken k (take n bits) i some-below (one-given noPlace broken k (take n bits) i some-below q) m l)
 
-  one-nowhere : {r : ℕ} → oneAt noPlace k (take n bits) ≡ refused r → oneAt fault k (take m bits) ≡ refused fault
+  one-nowhere : {r : ℕ} → oneAt noPlace k (take n bits) ≡ refused r → oneAt broken k (take m bits) ≡ refused broken
   unfolding onesBefore
   one-nowhere {r} q =
       let more : n ≡ m + (n - m) = omega arith in
       by-order k (sum (take m bits))
       (λ b. let (i, g) = one-some noPlace k (take n bits) some-below (omega (arith, ap (onesBefore bits) more, ones-add bits m (n - m))) in
       absurd (not-given r i (sym q ∙ g)))
-      (λ b. one-none fault k (take m bits) (below-take 2 m bits low) b)
+      (λ b. one-none broken k (take m bits) (below-take 2 m bits low) b)
 
 -- ---- the number at a place, by its stretch
 module _ {body : List ℕ} {d place : ℕ} (fit : Fit body d) {r : Stretch} (lead : Leads body d place r) where
@@ -121,7 +121,7 @@ module _ {body : List ℕ} {d place : ℕ} (fit : Fit body d) {r : Stretch} (lea
       (λ h. let e : many ≡ left = omega arith in rw e (take-all 512 (take left here) (omega (arith, length-take left here))))
       (λ h. let e : many ≡ 512 = omega arith in rw e (take-take 512 left here h))
 
-  look-is : lookFit body place ≡ bind (oneAt fault (place - r .ended) (take many here)) (λ i. endingAt body (512 * r .number + i))
+  look-is : lookFit body place ≡ bind (oneAt broken (place - r .ended) (take many here)) (λ i. endingAt body (512 * r .number + i))
   unfolding lookFit
   look-is = rw (← (lead .is), ← (lead .before), bits-are)
 
@@ -133,7 +133,7 @@ module _ {body : List ℕ} {d place : ℕ} (fit : Fit body d) {r : Stretch} (lea
     enough : many ≤ 64 * words
     enough = omega arith
 
-    pub look-none : {z : ℕ} → f ≡ selected.Refused z → refused fault ≡ lookFit body place
+    pub look-none : {z : ℕ} → f ≡ selected.Refused z → refused broken ≡ lookFit body place
     look-none {z} e =
         let none = one-nowhere here below (place - r .ended) many (64 * words) enough (sym told ∙ ap selectedSays e) in
         rw look-is (rw none)
@@ -147,7 +147,7 @@ module _ {body : List ℕ} {d place : ℕ} (fit : Fit body d) {r : Stretch} (lea
           let o = one-is noPlace (place - r .ended) (take (64 * words) here) (b .index) (below-take 2 (64 * words) here below) at-b in
           omega (arith, o .inside, length-take (64 * words) here)
 
-      pub look-behind : d ≤ 512 * r .number + b .index → refused fault ≡ lookFit body place
+      pub look-behind : d ≤ 512 * r .number + b .index → refused broken ≡ lookFit body place
       look-behind h =
           let none = one-behind here below (place - r .ended) many (64 * words) enough at-b (omega arith) in
           rw look-is (rw none)
@@ -158,7 +158,7 @@ module _ {body : List ℕ} {d place : ℕ} (fit : Fit body d) {r : Stretch} (lea
           rw look-is (rw one)
 
 -- ---- with the header
-pub look-unfit : (body : List ℕ) (place : ℕ) → partsFit body ≡ false → refused fault ≡ lookDirect body place
+pub look-unfit : (body : List ℕ) (place : ℕ) → partsFit body ≡ false → refused cutShort ≡ lookDirect body place
 unfolding lookDirect
 look-unfit body place e = rw e
 

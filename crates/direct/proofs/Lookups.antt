@@ -15,10 +15,10 @@ use Rattle.meaning.specs.Bytes.{wordAt}
 use Rattle.meaning.specs.DataBytes.{byteLength, fewest, dataBytes}
 use Rattle.meaning.specs.Direct.{sumCount, dataAt, lastBits, partsFit, flags, sumAt}
 use Rattle.meaning.specs.Direct.{stretchFrom, stretchOf, endedBefore, zerosBefore, endingAt, stretchBits, lookDirect}
-use Rattle.meaning.specs.Limits.{fault}
+use Rattle.meaning.specs.Limits.{cutShort, broken}
 use Rattle.meaning.specs.Lists.{sum, joined}
 use Rattle.meaning.specs.Rank.{onesBefore, oneAt}
-use Rattle.meaning.proofs.Answers.{Faulty, bind-faulty, need-faulty}
+use Rattle.meaning.proofs.Answers.{Faulty, a-cut, a-break, bind-faulty, need-faulty}
 use Rattle.meaning.proofs.Ranks.{one-at, one-within}
 use Rattle.meaning.proofs.Tests.{by-order}
 use Rattle.words.proofs.DataBytes.{held, data-append, data-cons}
@@ -27,20 +27,20 @@ use Rattle.direct.proofs.Holding.{body-below, body-flags, number-faulty
 use Rattle.direct.proofs.Written.{SumsTrue, true-sums}
 
 -- ---- whatever a lookup is refused by is a fault
-one-faulty : (k : ℕ) (bits : List ℕ) → Faulty (oneAt fault k bits)
+one-faulty : (k : ℕ) (bits : List ℕ) → Faulty (oneAt broken k bits)
 unfolding oneAt
-one-faulty k [] = refl
-one-faulty k (zero ∷ bits) = bind-faulty (oneAt fault k bits) _ (one-faulty k bits) (λ i. tt)
+one-faulty k [] = a-break
+one-faulty k (zero ∷ bits) = bind-faulty (oneAt broken k bits) _ (one-faulty k bits) (λ i. tt)
 one-faulty zero (suc b ∷ bits) = tt
-one-faulty (suc k) (suc b ∷ bits) = bind-faulty (oneAt fault k bits) _ (one-faulty k bits) (λ i. tt)
+one-faulty (suc k) (suc b ∷ bits) = bind-faulty (oneAt broken k bits) _ (one-faulty k bits) (λ i. tt)
 
 pub look-faulty : (body : List ℕ) (place : ℕ) → Faulty (lookDirect body place)
 unfolding lookDirect endingAt
 look-faulty body place =
     let s = stretchOf body place in
     let k = place - endedBefore body s in
-    need-faulty (partsFit body) _
-    (bind-faulty (oneAt fault k (stretchBits body s)) _ (one-faulty k (stretchBits body s)) (λ i. number-faulty body _ _))
+    need-faulty (partsFit body) cutShort _ a-cut
+    (bind-faulty (oneAt broken k (stretchBits body s)) _ (one-faulty k (stretchBits body s)) (λ i. number-faulty body _ _))
 
 -- ---- the stretch that the sums lead to
 record Found (body : List ℕ) (place s : ℕ) : Type 0 where
@@ -118,10 +118,10 @@ module _ (xs : List ℕ) (place : ℕ) (inside : place < length xs) where
   bit-clear : (j : ℕ) → j < size - 1 → getD (joined lastBits xs) (begins xs place + j) 0 ≡ 0
   bit-clear j h = bit-of j ∙ last-clear number (joined lastBits (drop (suc place) xs)) j h
 
-  bit-found : oneAt fault place (joined lastBits xs) ≡ given last
+  bit-found : oneAt broken place (joined lastBits xs) ≡ given last
   bit-found =
-      ap (λ (k : ℕ). oneAt fault k (joined lastBits xs)) (sym (ones-inside xs place inside (size - 1) (omega (arith, held number .least))))
-      ∙ one-at fault (joined lastBits xs) last (flags-below xs) bit-last
+      ap (λ (k : ℕ). oneAt broken k (joined lastBits xs)) (sym (ones-inside xs place inside (size - 1) (omega (arith, held number .least))))
+      ∙ one-at broken (joined lastBits xs) last (flags-below xs) bit-last
 
   data-from : drop (begins xs place) (dataBytes xs) ≡ fewest number ++ dataBytes (drop (suc place) xs)
   data-from =
@@ -167,8 +167,8 @@ module _ (body xs : List ℕ) (h : Holds body 0 xs) (place : ℕ) (inside : plac
       let true-so = true-sums (sumCount d) body (h .closed .sums) in
       let many = body-flags body (h .closed .fit) in
       let before = ended-is body (sumCount d) true-so s (f .most) in
-      let here : oneAt fault place (flags body) ≡ given (last xs place inside) = rw (h .bits) (bit-found xs place inside) in
-      let (j, g, at) = one-within fault place (flags body) (last xs place inside) (512 * s) 512 (body-below body) here (omega (arith, f .passed))
+      let here : oneAt broken place (flags body) ≡ given (last xs place inside) = rw (h .bits) (bit-found xs place inside) in
+      let (j, g, at) = one-within broken place (flags body) (last xs place inside) (512 * s) 512 (body-below body) here (omega (arith, f .passed))
       (reached s (f .most) (f .above)) (omega (arith, f .most)) in
       rw (h .closed .fit, before, g, ← at) ending
     where

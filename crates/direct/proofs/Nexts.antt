@@ -14,7 +14,7 @@ use Rattle.meaning.specs.Bytes.{numberOf, wordAt}
 use Rattle.meaning.specs.Codes.{codeDirect}
 use Rattle.meaning.specs.DataBytes.{byteLength}
 use Rattle.meaning.specs.Direct.{dataAt, partsFit, flags, numberIn, unitDirect}
-use Rattle.meaning.specs.Limits.{fault}
+use Rattle.meaning.specs.Limits.{cutShort, broken}
 use Rattle.meaning.specs.Places.{Target, Took, Ends}
 use Rattle.meaning.specs.Positions.{atBit}
 use Rattle.meaning.specs.Says.{foundSays}
@@ -32,19 +32,19 @@ use Rattle.direct.specs.declared.input.Next.{Next}
 use Rattle.direct.specs.declared.input.Next.the-variants as next
 
 -- ---- in so many data bytes
-pub in-long : (body : List ℕ) (i l : ℕ) → 4 < l → numberIn body i l ≡ refused fault
+pub in-long : (body : List ℕ) (i l : ℕ) → 4 < l → numberIn body i l ≡ refused broken
 unfolding numberIn
 in-long body i l h = rw (lt-leb l 4 h)
 
 module _ {body : List ℕ} {d : ℕ} (fit : Fit body d) (i l : ℕ) (few : l ≤ 4) {x : ℕ} (is : x ≡ numberOf (take l (drop (dataAt d + i) body))) where
-  of-x : numberIn body i l ≡ need (eqb (byteLength x) l) fault (given x)
+  of-x : numberIn body i l ≡ need (eqb (byteLength x) l) broken (given x)
   unfolding numberIn
   of-x = rw (is, fit .is, le-leb l 4 few)
 
   pub in-given : byteLength x ≡ l → given x ≡ numberIn body i l
   in-given e = rw of-x (rw (eq-eqb (byteLength x) l e))
 
-  pub in-refused : (byteLength x ≡ l → ⊥) → refused fault ≡ numberIn body i l
+  pub in-refused : (byteLength x ≡ l → ⊥) → refused broken ≡ numberIn body i l
   in-refused ne = rw of-x (rw (ne-eqb (byteLength x) l ne))
 
 -- ---- from a data byte on
@@ -52,7 +52,7 @@ abbrev behind : List ℕ → ℕ → ℕ
 behind body i = zerosFirst (drop i (flags body))
 
 -- the bits do not end it
-pub next-none : {body : List ℕ} {d : ℕ} → Fit body d → (i : ℕ) {len : ℕ} → len ≤ suc (behind body i) → d < i + len → refused fault ≡ nextIn body i
+pub next-none : {body : List ℕ} {d : ℕ} → Fit body d → (i : ℕ) {len : ℕ} → len ≤ suc (behind body i) → d < i + len → refused broken ≡ nextIn body i
 unfolding nextIn
 next-none {body} {d} fit i {len} few h =
     rw (← (fit .is), lt-leb (i + suc (behind body i)) d (omega arith))
@@ -64,7 +64,7 @@ unfolding nextIn
 next-is {body} {d} fit i {len} e h =
     by-order 4 (behind body i)
     (λ b. let long : 4 < len = omega arith in
-    rw (in-long body i len long, in-long body i (suc (behind body i)) (omega arith)) (need-refused (leb (i + suc (behind body i)) (wordAt body 0)) fault))
+    rw (in-long body i len long, in-long body i (suc (behind body i)) (omega arith)) (need-refused (leb (i + suc (behind body i)) (wordAt body 0)) broken))
     (λ b. let l : suc (behind body i) ≡ len = omega arith in
     rw (l, ← (fit .is), le-leb (i + len) d h))
 
@@ -84,13 +84,13 @@ abbrev oneUnit : ℕ × ℕ → Answer (Position × List ℕ)
 oneUnit t = given (atBit (t .1), t .0 ∷ [])
 
 one-unit : (b : Bool) (m : Answer ℕ) (after : ℕ)
-    → need b fault (bind m (λ x. oneUnit (x, after))) ≡ bind (need {A = ℕ × ℕ} b fault (bind m (λ x. given (x, after)))) oneUnit
+    → need b broken (bind m (λ x. oneUnit (x, after))) ≡ bind (need {A = ℕ × ℕ} b broken (bind m (λ x. given (x, after)))) oneUnit
 one-unit true (given x) after = refl
 one-unit true (refused e) after = refl
 one-unit false m after = refl
 
 module _ (body : List ℕ) (left : ℕ) (p : Position) where
-  pub unit-unfit : partsFit body ≡ false → unitDirect body left p ≡ refused fault
+  pub unit-unfit : partsFit body ≡ false → unitDirect body left p ≡ refused cutShort
   unfolding unitDirect
   unit-unfit e = rw e
 

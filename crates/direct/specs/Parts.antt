@@ -11,7 +11,7 @@ use Rattle.meaning.specs.Bytes.{wordAt}
 use Rattle.meaning.specs.DataBytes.{dataBytes}
 use Rattle.meaning.specs.Direct.{flagBytes, sumCount, lastBits, sumBytes, partsFit, flags, numberIn, stretchOf, endedBefore, stretchBits, endingAt}
 use Rattle.meaning.specs.Codes.{codeDirect}
-use Rattle.meaning.specs.Limits.{fault}
+use Rattle.meaning.specs.Limits.{broken}
 use Rattle.meaning.specs.Lists.{joined}
 use Rattle.meaning.specs.Places.{Took, Ends}
 use Rattle.meaning.specs.Positions.{atBit}
@@ -42,7 +42,7 @@ pub record Fit (body : List ℕ) (d : ℕ) : Type 0 where
 unfoldable pub nextIn : List ℕ → ℕ → Answer (ℕ × ℕ)
 nextIn body i =
     let l = suc (zerosFirst (drop i (flags body))) in
-    need (leb (i + l) (wordAt body 0)) fault (bind (numberIn body i l) (λ x. given (x, i + l)))
+    need (leb (i + l) (wordAt body 0)) broken (bind (numberIn body i l) (λ x. given (x, i + l)))
 
 abbrev pub nextSays : Next → Answer (ℕ × ℕ)
 nextSays (next.Number x end) = given (x, end .index)
@@ -64,7 +64,7 @@ pub record Leads (body : List ℕ) (d place : ℕ) (r : Stretch) : Type 0 where
 unfoldable pub lookFit : List ℕ → ℕ → Answer ℕ
 lookFit body place =
     let s = stretchOf body place in
-    bind (oneAt fault (place - endedBefore body s) (stretchBits body s)) (λ i. endingAt body (512 * s + i))
+    bind (oneAt broken (place - endedBefore body s) (stretchBits body s)) (λ i. endingAt body (512 * s + i))
 
 -- the bits and the sums of a list
 abbrev pub flagsOf : List ℕ → List ℕ

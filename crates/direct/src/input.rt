@@ -1,7 +1,8 @@
 // The parts of a body, its bits, and the number in some of its data bytes.
 use leaves::whole;
+use meaning::BROKEN;
 use meaning::Bit;
-use meaning::FAULT;
+use meaning::CUT_SHORT;
 use meaning::Found;
 use meaning::Offset;
 use words::byte_length;
@@ -9,13 +10,14 @@ use words::number_at;
 use words::word_at;
 ghost use mathlib.Core.Path.{_≡_};
 ghost use Prim.Native.Nat.{_+_, _<_, _≤_, _^_, min};
+ghost use mathlib.Core.Bool.{cond};
 ghost use lib.Dec.{eqb};
 ghost use lib.ListN.{getD, drop};
 ghost use Rattle.meaning.specs.Answer.{given, need};
 ghost use Rattle.meaning.specs.Bits.{zerosFirst};
 ghost use Rattle.meaning.specs.Bytes.{wordAt};
 ghost use Rattle.meaning.specs.Direct.{sumsAt, dataAt, sumCount, partsFit, flags, sumAt, numberIn, zerosBefore};
-ghost use Rattle.meaning.specs.Limits.{fault};
+ghost use Rattle.meaning.specs.Limits.{cutShort};
 ghost use Rattle.meaning.specs.Says.{foundSays};
 ghost use Rattle.direct.specs.Parts.{headingSays, headRefusal, Fit, nextSays, nextIn};
 
@@ -49,27 +51,17 @@ pub fn data_at(d: usize) -> usize
 
 // The number of data bytes; all parts' ends must fit the body.
 pub fn heading_of(body: &[u8]) -> Heading
-    ensures { λ r. ⌜ headingSays r ≡ need (partsFit (now (body .entry))) fault (given (wordAt (now (body .entry)) 0)) ⌝ }
+    ensures { λ r. ⌜ headingSays r ≡ need (partsFit (now (body .entry))) cutShort (given (wordAt (now (body .entry)) 0)) ⌝ }
 {
     let len = body.len();
     if len < 4 {
-        return Heading::Refused(FAULT);
+        return Heading::Refused(CUT_SHORT);
     }
     let d = whole(word_at(body, Offset { byte: 0 }));
     if len < data_at(d) + d {
-        return Heading::Refused(FAULT);
+        return Heading::Refused(CUT_SHORT);
     }
     Heading::Data(d)
-}
-
-// Whether all parts' ends fit the body.
-pub fn parts_fit(body: &[u8]) -> bool
-    ensures { λ r. ⌜ r ≡ partsFit (now (body .entry)) ⌝ }
-{
-    match heading_of(body) {
-        Heading::Data(_) => true,
-        Heading::Refused(_) => false,
-    }
 }
 
 // The number of a heading's refusal, 0 where it is none.
@@ -80,6 +72,13 @@ pub fn head_refusal(h: Heading) -> u8
         Heading::Data(_) => 0,
         Heading::Refused(e) => e,
     }
+}
+
+// The refusal of a body that its parts' ends do not fit, 0 where they fit.
+pub fn parts_refusal(body: &[u8]) -> u8
+    ensures { λ r. ⌜ r ≡ cond (partsFit (now (body .entry))) 0 cutShort ⌝ }
+{
+    head_refusal(heading_of(body))
 }
 
 // Whether a data byte ends no number: its bit is 0.
@@ -147,14 +146,14 @@ pub fn number_in(body: &[u8], d: usize, i: Bit, len: usize) -> Found
     ensures { λ r. ⌜ foundSays r ≡ numberIn (now (body .entry)) (i .index) len ⌝ }
 {
     if 4 < len {
-        return Found::Refused(FAULT);
+        return Found::Refused(BROKEN);
     }
     let byte = data_at(d) + i.index;
     let x = number_at(body, Offset { byte }, len);
     if byte_length(x) == len {
         return Found::Number(x);
     }
-    Found::Refused(FAULT)
+    Found::Refused(BROKEN)
 }
 
 // The number whose first byte is data byte i: a bit from there on ends it.
@@ -164,12 +163,12 @@ pub fn next_number(body: &[u8], d: usize, i: Bit) -> Next
 {
     let first = i.index;
     if d <= first {
-        return Next::Refused(FAULT);
+        return Next::Refused(BROKEN);
     }
     let len = zeros_from(body, d, i) + 1;
     let index = first + len;
     if d < index {
-        return Next::Refused(FAULT);
+        return Next::Refused(BROKEN);
     }
     match number_in(body, d, i, len) {
         Found::Number(x) => Next::Number(x, Bit { index }),

@@ -7,8 +7,8 @@ use crate::input::sum_at;
 use crate::input::zeros_before;
 use bits::one_in;
 use leaves::lesser;
+use meaning::BROKEN;
 use meaning::Bit;
-use meaning::FAULT;
 use meaning::Found;
 use meaning::Offset;
 use meaning::Place;
@@ -69,11 +69,11 @@ fn look_in(body: &[u8], d: usize, place: Place) -> Found
     let byte = 4 + 64 * s;
     let found = one_in(body, Offset { byte }, words, place.number - stretch.ended);
     let Selected::At(bit) = found else {
-        return Found::Refused(FAULT);
+        return Found::Refused(BROKEN);
     };
     let index = first + bit.index;
     if d <= index {
-        return Found::Refused(FAULT);
+        return Found::Refused(BROKEN);
     }
     ending_at(body, d, Bit { index })
 }

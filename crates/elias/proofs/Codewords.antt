@@ -1,13 +1,16 @@
 -- What gamma and delta have in common: a codeword for each v from 1 to 2^32, told apart from whatever follows it. Assumes nothing.
 use mathlib.Core.Path.{_≡_, sym, ap, _∙_}
 use Prim.Native.Nat.{ℕ, _≤_, _<_}
+use native.Mathlib.Omega.{arith}
 use mathlib.Core.List.{List, _++_}
-use lib.ListN.{length, drop}
+use borrow.Author.Tests.{le-leb, leb-true}
+use lib.Dec.{leb}
+use lib.ListN.{length, drop, length-append}
 use lib.Seq.{drop-at}
-use Rattle.meaning.specs.Answer.{Answer, given}
-use Rattle.meaning.specs.Limits.{numberLimit}
+use Rattle.meaning.specs.Answer.{Answer, given, need}
+use Rattle.meaning.specs.Limits.{cutShort, numberLimit}
 use Rattle.meaning.specs.Places.{Below}
-use Rattle.meaning.proofs.Answers.{Faulty}
+use Rattle.meaning.proofs.Lasting.{Lasts, lasts-there}
 
 -- v was read from k bits at the start of l: they are its codeword
 pub record Back (most : ℕ) (bits : ℕ → List ℕ) (l : List ℕ) (v k : ℕ) : Type 0 where
@@ -16,11 +19,15 @@ pub record Back (most : ℕ) (bits : ℕ → List ℕ) (l : List ℕ) (v k : ℕ
   pub few : v ≤ most
   pub within : k ≤ length l
 
+-- some bits are taken, and all of them are there
+abbrev pub Taken : List ℕ → ℕ × ℕ → Type 0
+Taken l t = (0 < t .1) × (t .1 ≤ length l)
+
 pub record Word (m : ℕ) (bits : ℕ → List ℕ) (word : List ℕ → Answer (ℕ × ℕ)) : Type 0 where
   pub forth : (v : ℕ) (rest : List ℕ) → 0 < v → v ≤ numberLimit → word (bits v ++ rest) ≡ given (v, length (bits v))
   pub back : (l : List ℕ) (t : ℕ × ℕ) → Below 2 l → word l ≡ given t → Back numberLimit bits l (t .0) (t .1)
-  -- whatever a codeword is refused by is a fault
-  pub faulty : (l : List ℕ) → Faulty (word l)
+  -- a codeword that is not cut short is the same whatever follows it
+  pub lasts : (l more : List ℕ) → Lasts (Taken l) (word l) (word (l ++ more))
   -- a codeword takes at most m bits, each 0 or 1
   pub most : (v : ℕ) → 0 < v → v ≤ numberLimit → length (bits v) ≤ m
   pub small : (v : ℕ) → Below 2 (bits v)
@@ -28,3 +35,11 @@ pub record Word (m : ℕ) (bits : ℕ → List ℕ) (word : List ℕ → Answer 
 -- a list that begins with some bits goes on after as many as they are
 pub goes-on : (l g r : List ℕ) (k : ℕ) → l ≡ g ++ r → length g ≡ k → l ≡ g ++ drop k l
 goes-on l g r k e n = e ∙ ap (λ (x : List ℕ). g ++ x) (sym (drop-at g r k n) ∙ ap (drop k) (sym e))
+
+-- n bits that must be there are still there with bits added
+pub lasts-bits : {A : Type 0} {Such : A → Type 0} (n : ℕ) (l more : List ℕ) (short long : Answer A) → (n ≤ length l → Lasts Such short long)
+    → Lasts Such (need (leb n (length l)) cutShort short) (need (leb n (length (l ++ more))) cutShort long)
+lasts-bits n l more short long h =
+    lasts-there (leb n (length l)) (leb n (length (l ++ more))) short long
+    (λ t. le-leb n (length (l ++ more)) (omega (arith, leb-true n (length l) t, length-append l more)))
+    (λ t. h (leb-true n (length l) t))

@@ -7,22 +7,23 @@ use borrow.Author.Tests.{le-leb, lt-leb, leb-true}
 use lib.Dec.{leb}
 use lib.ListN.{length, take, drop, length-append, length-drop, take-append-drop}
 use lib.Pow.{pow-pos}
-use lib.Seq.{drop-append-seam, take-at, length-take-le}
+use lib.Seq.{drop-append-seam, take-at, length-take-le, take-append-le, drop-append-le}
 use Rattle.meaning.specs.Answer.{given, refused}
 use Rattle.meaning.specs.Bits.{bitsHigh, numberHigh, bitLength}
 use Rattle.meaning.specs.Elias.{gammaBits, gammaIn, deltaBits, restIn, deltaWord}
-use Rattle.meaning.specs.Limits.{fault, numberLimit}
+use Rattle.meaning.specs.Limits.{cutShort, broken, numberLimit}
 use Rattle.meaning.specs.Places.{Below}
-use Rattle.meaning.proofs.Answers.{Faulty, bind-given, need-given, bind-faulty, need-faulty}
+use Rattle.meaning.proofs.Answers.{bind-given, need-given}
 use Rattle.meaning.proofs.Bounds.{below-append, below-take, below-drop}
-use Rattle.elias.proofs.Gamma.{gamma-forth, gamma-back, gamma-faulty, gamma-bits, gamma-length}
+use Rattle.meaning.proofs.Lasting.{Lasts, lasts-given, lasts-rule, lasts-bind}
+use Rattle.elias.proofs.Gamma.{gamma-forth, gamma-back, gamma-lasts, gamma-bits, gamma-length}
 use Rattle.elias.proofs.Length.{Long, long-of, long-within, one-again, one-long, one-low}
 use Rattle.elias.proofs.Numbers.{high-length, high-bits}
-use Rattle.elias.proofs.Codewords.{Word, Back, goes-on}
+use Rattle.elias.proofs.Codewords.{Word, Back, Taken, goes-on, lasts-bits}
 
 -- ---- `restIn` by its tests
 module _ (n : ℕ) (l : List ℕ) where
-  pub rest-short : length l < n → restIn n l ≡ refused fault
+  pub rest-short : length l < n → restIn n l ≡ refused cutShort
   unfolding restIn
   rest-short h = rw (lt-leb n (length l) h)
 
@@ -30,15 +31,21 @@ module _ (n : ℕ) (l : List ℕ) where
   unfolding restIn
   rest-given h o = rw (le-leb n (length l) h, le-leb (numberHigh 1 (take n l)) numberLimit o)
 
-  rest-faulty : Faulty (restIn n l)
-  unfolding restIn
-  rest-faulty = need-faulty (leb n (length l)) _ (need-faulty (leb (numberHigh 1 (take n l)) numberLimit) _ tt)
+-- ---- with bits added
+rest-lasts : (n : ℕ) (l more : List ℕ) → Lasts (λ v. n ≤ length l) (restIn n l) (restIn n (l ++ more))
+unfolding restIn
+rest-lasts n l more =
+    lasts-bits n l more _ _
+    (λ there. rw (take-append-le n l more there)
+    (lasts-rule (leb (numberHigh 1 (take n l)) numberLimit) _ _ (λ o. lasts-given (numberHigh 1 (take n l)) there)))
 
-delta-faulty : (l : List ℕ) → Faulty (deltaWord l)
+delta-lasts : (l more : List ℕ) → Lasts (Taken l) (deltaWord l) (deltaWord (l ++ more))
 unfolding deltaWord
-delta-faulty l =
-    bind-faulty (gammaIn 5 33 l) _ (gamma-faulty 5 33 l)
-    (λ s. bind-faulty (restIn (s .0 - 1) (drop (s .1) l)) _ (rest-faulty (s .0 - 1) (drop (s .1) l)) (λ v. tt))
+delta-lasts l more =
+    lasts-bind (gammaIn 5 33 l) (gammaIn 5 33 (l ++ more)) _ _ (gamma-lasts 5 33 l more)
+    (λ s e h. let after = drop (s .1) l in
+    rw (drop-append-le (s .1) l more (h .1)) (lasts-bind (restIn (s .0 - 1) after) (restIn (s .0 - 1) (after ++ more)) _ _ (rest-lasts (s .0 - 1) after more)
+    (λ v f k. lasts-given (v, s .1 + (s .0 - 1)) (omega (arith, h), omega (arith, h, length-drop (s .1) l)))))
 
 -- ---- the codeword of a number of m + 1 digits
 delta-is : (m v : ℕ) → Long m v → deltaBits v ≡ gammaBits (suc m) ++ bitsHigh m v
@@ -79,8 +86,8 @@ delta-forth v r h k =
 rest-back : (n : ℕ) (l : List ℕ) (v : ℕ) → restIn n l ≡ given v → (n ≤ length l) × (numberHigh 1 (take n l) ≡ v) × (v ≤ numberLimit)
 unfolding restIn
 rest-back n l v e =
-    let (p, e₁) = need-given (leb n (length l)) fault _ v e in
-    let (q, e₂) = need-given (leb (numberHigh 1 (take n l)) numberLimit) fault _ v e₁ in
+    let (p, e₁) = need-given (leb n (length l)) cutShort _ v e in
+    let (q, e₂) = need-given (leb (numberHigh 1 (take n l)) numberLimit) broken _ v e₁ in
     let is : numberHigh 1 (take n l) ≡ v = cc in
     (leb-true n (length l) p, is, omega (arith, leb-true (numberHigh 1 (take n l)) numberLimit q))
 
@@ -126,4 +133,4 @@ delta-most v h k =
     omega (arith, delta-length m v l, gamma-length j (suc m) i, l .short, long-within j 5 (suc m) (i .least) (omega (arith, l .short)))
 
 pub word-delta : Word 43 deltaBits deltaWord
-word-delta = record { forth = delta-forth; back = delta-back; faulty = delta-faulty; most = delta-most; small = delta-bits }
+word-delta = record { forth = delta-forth; back = delta-back; lasts = delta-lasts; most = delta-most; small = delta-bits }

@@ -7,7 +7,7 @@ use lib.ListN.{length, drop}
 use Rattle.meaning.specs.Answer.{given, refused}
 use Rattle.meaning.specs.Bits.{bitsOf, pack}
 use Rattle.meaning.specs.Elias.{writeGamma, writeDelta, unitElias}
-use Rattle.meaning.specs.Limits.{fault, numberLimit, mostBytes}
+use Rattle.meaning.specs.Limits.{cutShort, numberLimit, mostBytes}
 use Rattle.meaning.specs.Places.{Spare}
 use Rattle.meaning.specs.Positions.{atBit}
 use Rattle.meaning.specs.declared.Position.{Position}
@@ -71,7 +71,7 @@ module _ (f : Form) (body : List ℕ) where
       let b = word-of f .back l (v, k) (below-drop 2 p (bitsOf body) (bits-below body)) e in
       by-order p (8 * length body)
       (λ h. record { some = b .some; few = b .few; within = omega (arith, b .within) })
-      (λ h. absurd (not-given fault (v, k) (word-none f l (omega arith) ∙ e)))
+      (λ h. absurd (not-given cutShort (v, k) (word-none f l (omega arith) ∙ e)))
 
   module _ (left : ℕ) (p : Position) where
     pub unit-given : {v k : ℕ} → wordOf f (drop (p .bit .index) (bitsOf body)) ≡ given (v, k)

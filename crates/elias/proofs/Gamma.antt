@@ -6,20 +6,23 @@ use native.Mathlib.Omega.{arith}
 use mathlib.Core.List.{List, _∷_, _++_, append-assoc}
 use borrow.Author.Tests.{le-leb, lt-leb, leb-true}
 use lib.Dec.{leb}
-use lib.ListN.{length, take, drop, replicate, length-append, length-replicate, take-append-drop}
+use lib.ListN.{length, take, drop, replicate, length-append, length-drop, length-replicate, take-append-drop}
 use lib.Pow.{pow-mono, pow-pos}
-use lib.Seq.{drop-at, take-at, length-take-le}
+use lib.Seq.{drop-at, take-at, length-take-le, take-append-le, drop-append-le}
 use Rattle.meaning.specs.Answer.{given, refused}
 use Rattle.meaning.specs.Bits.{bitsHigh, numberHigh, zerosFirst, bitLength}
 use Rattle.meaning.specs.Elias.{gammaBits, gammaIn, gammaWord}
-use Rattle.meaning.specs.Limits.{fault, numberLimit}
+use Rattle.meaning.specs.Limits.{cutShort, broken, numberLimit}
 use Rattle.meaning.specs.Places.{Below}
-use Rattle.meaning.proofs.Answers.{Faulty, need-given, need-faulty}
+use Rattle.meaning.proofs.Answers.{need-given}
 use Rattle.meaning.proofs.Bounds.{below-append, below-zeros, below-take, below-right}
+use Rattle.meaning.proofs.Lasting.{Lasts, lasts-given, lasts-rule}
+use Rattle.meaning.proofs.Lasting.Lasts.{cut, wrong}
+use Rattle.meaning.proofs.Tests.{by-order}
 use Rattle.elias.proofs.Length.{Long, long-of, long-within, first-one, one-again, one-long, one-low}
 use Rattle.elias.proofs.Numbers.{high-length, high-bits}
-use Rattle.elias.proofs.Codewords.{Word, Back, goes-on}
-use Rattle.elias.proofs.Zeros.{zeros-then, led}
+use Rattle.elias.proofs.Codewords.{Word, Back, Taken, goes-on, lasts-bits}
+use Rattle.elias.proofs.Zeros.{zeros-then, zeros-ended, zeros-added, led}
 
 -- ---- `gammaIn` by its tests
 -- the number that stands behind m zeros
@@ -27,11 +30,11 @@ abbrev pub behind : ℕ → List ℕ → ℕ
 behind m l = numberHigh 0 (take (m + 1) (drop m l))
 
 module _ (z most : ℕ) (l : List ℕ) where
-  pub in-many : z < zerosFirst l → gammaIn z most l ≡ refused fault
+  pub in-many : z < zerosFirst l → gammaIn z most l ≡ refused broken
   unfolding gammaIn
   in-many h = rw (lt-leb (zerosFirst l) z h)
 
-  pub in-short : zerosFirst l ≤ z → length l < 2 * zerosFirst l + 1 → gammaIn z most l ≡ refused fault
+  pub in-short : zerosFirst l ≤ z → length l < 2 * zerosFirst l + 1 → gammaIn z most l ≡ refused cutShort
   unfolding gammaIn
   in-short h k = rw (le-leb (zerosFirst l) z h, lt-leb (2 * zerosFirst l + 1) (length l) k)
 
@@ -40,11 +43,31 @@ module _ (z most : ℕ) (l : List ℕ) where
   unfolding gammaIn
   in-given h k o = rw (le-leb (zerosFirst l) z h, le-leb (2 * zerosFirst l + 1) (length l) k, le-leb (behind (zerosFirst l) l) most o)
 
-  pub gamma-faulty : Faulty (gammaIn z most l)
+-- ---- with bits added
+behind-added : (m : ℕ) (l more : List ℕ) → 2 * m + 1 ≤ length l → behind m (l ++ more) ≡ behind m l
+behind-added m l more h =
+    ap (λ (r : List ℕ). numberHigh 0 (take (m + 1) r)) (drop-append-le m l more (omega arith))
+    ∙ ap (numberHigh 0) (take-append-le (m + 1) (drop m l) more (omega (arith, length-drop m l)))
+
+module _ (z most : ℕ) (l more : List ℕ) where
+  -- where a one ends the zeros, they are as many with bits added
+  one-lasts : zerosFirst l < length l → Lasts (Taken l) (gammaIn z most l) (gammaIn z most (l ++ more))
   unfolding gammaIn
-  gamma-faulty =
-      need-faulty (leb (zerosFirst l) z) _ (need-faulty (leb (2 * zerosFirst l + 1) (length l)) _
-      (need-faulty (leb (behind (zerosFirst l) l) most) _ tt))
+  one-lasts h =
+      let m = zerosFirst l in
+      rw (zeros-ended l more h)
+      (lasts-rule (leb m z) _ _
+      (λ few. lasts-bits (2 * m + 1) l more _ _
+      (λ there. rw (behind-added m l more there)
+      (lasts-rule (leb (behind m l) most) _ _ (λ o. lasts-given (behind m l, 2 * m + 1) (omega arith, there))))))
+
+  -- where no one is there, there are too many zeros already, or what follows them is missing
+  pub gamma-lasts : Lasts (Taken l) (gammaIn z most l) (gammaIn z most (l ++ more))
+  gamma-lasts =
+      by-order (zerosFirst l) (length l) one-lasts
+      (λ h. by-order z (zerosFirst l)
+      (λ k. wrong (in-many z most l k) (in-many z most (l ++ more) (omega (arith, zeros-added l more))))
+      (λ k. cut (in-short z most l k (omega arith))))
 
 -- ---- the codeword of a number of m + 1 digits
 abbrev form : ℕ → List ℕ → List ℕ
@@ -117,9 +140,9 @@ pub gamma-back : (z most : ℕ) (l : List ℕ) (t : ℕ × ℕ) → z ≤ 32 →
 unfolding gammaIn
 gamma-back z most l t hz b e =
     let m = zerosFirst l in
-    let (p, e₁) = need-given (leb m z) fault _ t e in
-    let (q, e₂) = need-given (leb (2 * m + 1) (length l)) fault _ t e₁ in
-    let (r, e₃) = need-given (leb (behind m l) most) fault _ t e₂ in
+    let (p, e₁) = need-given (leb m z) broken _ t e in
+    let (q, e₂) = need-given (leb (2 * m + 1) (length l)) cutShort _ t e₁ in
+    let (r, e₃) = need-given (leb (behind m l) most) broken _ t e₂ in
     let is : (behind m l, 2 * m + 1) ≡ t = cc in
     let hm = leb-true m z p in
     let hl = leb-true (2 * m + 1) (length l) q in
@@ -134,7 +157,7 @@ word-gamma =
     record {
       forth = λ v rest h k. gamma-forth 32 numberLimit v rest (omega arith) (omega arith) h k;
       back = λ l t b e. gamma-back 32 numberLimit l t (omega arith) b e;
-      faulty = λ l. gamma-faulty 32 numberLimit l;
+      lasts = gamma-lasts 32 numberLimit;
       most = λ v h k. let (m, l) = long-of v h (omega arith) in omega (arith, gamma-length m v l, l .short);
       small = gamma-bits;
     }

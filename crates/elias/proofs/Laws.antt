@@ -1,16 +1,16 @@
 -- Gamma and delta are lawful: what is proved here once is proved of any codewords that are told apart from what follows them. Assumes nothing.
 use Prim.Native.Nat.{ℕ, suc, _+_, _-_, _*_, _/_, _≤_, _<_}
 use mathlib.Core.Path.{_≡_, refl, sym, ap, _∙_, subst}
-use mathlib.Core.Bool.{true}
+use mathlib.Core.Bool.{Bool, true, false}
 use mathlib.Core.List.{List, [], _∷_, _++_, append-assoc}
 use native.Mathlib.Nat.{mul-suc, mul-le-mul-left, mul-le-mul-right}
 use native.Mathlib.Omega.{arith}
-use borrow.Author.Tests.{lt-ltb, ltb-true}
-use lib.Dec.{ltb, eqb}
-use lib.ListN.{length, drop, replicate, length-append, length-replicate}
-use lib.Seq.{drop-append-seam, drop-drop}
+use borrow.Author.Tests.{lt-ltb, le-leb, ltb-true, leb-true}
+use lib.Dec.{leb, ltb, eqb}
+use lib.ListN.{length, drop, replicate, length-append, length-replicate, drop-of-length-le}
+use lib.Seq.{drop-append-seam, drop-append-le, drop-drop}
 use Rattle.meaning.specs.Answer.{Answer, given}
-use Rattle.meaning.specs.Bits.{bitsOf, pack}
+use Rattle.meaning.specs.Bits.{bitsHigh, bitsOf, pack}
 use Rattle.meaning.specs.Codes.{Code, byUnits, codeGamma, codeDelta, readCode, always}
 use Rattle.meaning.specs.Elias.{gammaBits, deltaBits, writeGamma, writeDelta, gammaWord, deltaWord, unitElias, doneElias}
 use Rattle.meaning.specs.Limits.{numberLimit}
@@ -18,17 +18,19 @@ use Rattle.meaning.specs.Lists.{all, joined}
 use Rattle.meaning.specs.Places.{Below}
 use Rattle.meaning.specs.Positions.{atBit}
 use Rattle.meaning.specs.declared.Position.{Position}
-use Rattle.meaning.proofs.Answers.{Faulty, bind-given, bind-faulty}
+use Rattle.meaning.proofs.Answers.{bind-given}
 use Rattle.meaning.proofs.Bounds.{below-nil, below-cons, below-append, below-drop}
 use Rattle.meaning.proofs.Codes.{spare-always}
+use Rattle.meaning.proofs.Lasting.{Lasts, lasts-given, lasts-bind}
 use Rattle.meaning.proofs.Lawful.{Lawful, Read}
-use Rattle.meaning.proofs.Tests.{both-true, true-both}
+use Rattle.meaning.proofs.Tests.{by-order, both-true, true-both}
 use Rattle.meaning.proofs.Units.{Good, Whole, read-many, read-written, read-holds}
-use Rattle.leaves.proofs.Joined.{all-zeros, zeros-all}
+use Rattle.leaves.proofs.Joined.{joined-append, all-zeros, zeros-all}
 use Rattle.elias.proofs.Delta.{word-delta}
 use Rattle.elias.proofs.Gamma.{word-gamma}
-use Rattle.elias.proofs.Pack.{bits-below, pack-length, pack-below, pack-bits, packed, spare}
-use Rattle.elias.proofs.Codewords.{Word}
+use Rattle.elias.proofs.Pack.{bits-left, bits-below, pack-length, pack-below, pack-bits, packed, spare}
+use Rattle.elias.proofs.Codewords.{Word, Taken}
+use Rattle.elias.proofs.Seen.{seen-more}
 
 -- the codewords of a list
 abbrev pub words : (ℕ → List ℕ) → List ℕ → List ℕ
@@ -50,6 +52,26 @@ pub record One (word : List ℕ → Answer (ℕ × ℕ)) (body : List ℕ) (at :
   pub size : ℕ
   pub is : u ≡ (atBit (at + size), (value - 1) ∷ [])
   pub read : word (drop at (bitsOf body)) ≡ given (value, size)
+
+-- ---- bytes added behind a body
+-- the bits from a bit on, also past the end, are the same and more
+bits-added : (at : ℕ) (body more : List ℕ) → (r : List ℕ) × (drop at (bitsOf (body ++ more)) ≡ drop at (bitsOf body) ++ r)
+unfolding bitsOf
+bits-added at body more =
+    let all = drop at (bitsOf (body ++ more)) in
+    by-order (length (bitsOf body)) at
+    (λ h. (all, ap (λ (l : List ℕ). l ++ all) (sym (drop-of-length-le (bitsOf body) {i = at} (omega arith)))))
+    (λ h. (bitsOf more, ap (drop at) (joined-append (bitsHigh 8) body more) ∙ drop-append-le at (bitsOf body) (bitsOf more) h))
+
+-- a codeword that ends there lies within the body
+abbrev inside : List ℕ → Position → Bool
+inside body p = leb (p .bit .index) (8 * length body)
+
+over : (body : List ℕ) (b : ℕ) (more : List ℕ) (p : Position) → inside body p ≡ true → doneElias (body ++ (b ∷ more)) p ≡ false
+over body b more p h =
+    let at = p .bit .index in
+    let here : at ≤ 8 * length body = leb-true at (8 * length body) h in
+    sym (seen-more (body ++ (b ∷ more)) p (omega (arith, bits-left at (body ++ (b ∷ more)), length-append body (b ∷ more))))
 
 module _ (m : ℕ) (bits : ℕ → List ℕ) (word : List ℕ → Answer (ℕ × ℕ)) (w : Word m bits word) where
   one : (body : List ℕ) (left : ℕ) (p : Position) (u : Position × List ℕ) → unitElias word body left p ≡ given u → One word body (p .bit .index) u
@@ -182,16 +204,25 @@ module _ (m : ℕ) (bits : ℕ → List ℕ) (word : List ℕ → Answer (ℕ ×
         small = h .small;
       }
 
-  faulty : (body : List ℕ) (left : ℕ) (p : Position) → Faulty (unitElias word body left p)
+  units : (body more : List ℕ) (left : ℕ) (p : Position)
+      → Lasts (λ u. inside body p ≡ true → inside body (u .0) ≡ true) (unitElias word body left p) (unitElias word (body ++ more) left p)
   unfolding unitElias
-  faulty body left p = let l = drop (p .bit .index) (bitsOf body) in bind-faulty (word l) _ (w .faulty l) (λ t. tt)
+  units body more left p =
+      let at = p .bit .index in
+      let l = drop at (bitsOf body) in
+      let (r, e) = bits-added at body more in
+      lasts-bind (word l) (word (drop at (bitsOf (body ++ more)))) _ _
+      (subst (λ (longer : List ℕ). Lasts (Taken l) (word l) (word longer)) (sym e) (w .lasts l r))
+      (λ t f h. lasts-given _ (λ i. le-leb (at + t .1) (8 * length body) (omega (arith, h, bits-left at body))))
 
   lawful : m ≤ 65 → Lawful code
   lawful few =
       record {
         good = λ body b. good body;
-        begins = λ body n. tt;
-        faulty = faulty;
+        inside = inside;
+        starts = λ body more n. lasts-given (atBit 0) (le-leb 0 (8 * length body) (omega arith));
+        units = units;
+        over = over;
         fresh = spare-always [];
         forth = λ xs short h. forth xs h;
         back = back;

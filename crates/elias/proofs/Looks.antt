@@ -11,7 +11,7 @@ use lib.Seq.{take-add, drop-at, drop-drop, length-take-le, take-append-le}
 use Rattle.meaning.specs.Answer.{Answer, given, need}
 use Rattle.meaning.specs.Bits.{bitsHigh, bitsOf, numberHigh}
 use Rattle.meaning.specs.Elias.{gammaIn, gammaWord, deltaWord}
-use Rattle.meaning.specs.Limits.{fault, numberLimit}
+use Rattle.meaning.specs.Limits.{broken, numberLimit}
 use Rattle.meaning.proofs.Answers.{not-given}
 use Rattle.meaning.proofs.Bounds.{below-drop}
 use Rattle.elias.specs.Padded.{padded}
@@ -34,7 +34,7 @@ pub stops : {e : ℕ} {a : Answer (ℕ × ℕ)} → Gives (Refused e) a
 stops {e} = record { value = λ r. absurd (not-given e _ (ap wordSays r)) }
 
 -- a value that is not too large is told
-told-small : {most v k : ℕ} {a : Answer (ℕ × ℕ)} → need (leb v most) fault (given (v, k)) ≡ a → v ≤ most → given (v, k) ≡ a
+told-small : {most v k : ℕ} {a : Answer (ℕ × ℕ)} → need (leb v most) broken (given (v, k)) ≡ a → v ≤ most → given (v, k) ≡ a
 told-small {most} {v} e h = rw (le-leb v most h) at e
 
 -- ---- gamma

@@ -3,7 +3,7 @@ use mathlib.Core.Path.{_≡_, refl, sym, ap, _∙_}
 use Prim.Native.Nat.{ℕ, zero, suc, _+_, _-_, _*_, _%_, _^_, _≤_, _<_}
 use native.Mathlib.Nat.{le-mul-of-pos-right}
 use native.Mathlib.Omega.{arith}
-use mathlib.Core.Bool.{Bool, true, false, _&&_}
+use mathlib.Core.Bool.{Bool, true, false, cond, _&&_}
 use mathlib.Core.List.{List, [], _∷_}
 use borrow.Author.Tests.{le-leb, lt-ltb, le-ltb, ne-eqb}
 use lib.Count.{leadingZeros}
@@ -14,7 +14,7 @@ use lib.Seq.{take-take, take-add, drop-drop, length-take-le}
 use Rattle.meaning.specs.Answer.{given, refused, bind, need}
 use Rattle.meaning.specs.Bits.{bitsHigh, bitsOf, numberHigh, zerosFirst}
 use Rattle.meaning.specs.Elias.{gammaIn, gammaWord, restIn, deltaWord, doneElias}
-use Rattle.meaning.specs.Limits.{fault, numberLimit}
+use Rattle.meaning.specs.Limits.{cutShort, broken, numberLimit}
 use Rattle.meaning.specs.Lists.{all}
 use Rattle.meaning.specs.Places.{Below}
 use Rattle.meaning.specs.declared.Position.{Position}
@@ -29,7 +29,7 @@ use Rattle.elias.proofs.Gamma.{behind, in-many, in-short}
 use Rattle.elias.proofs.Numbers.{high-length, number-append, number-zeros, number-after, number-small}
 use Rattle.elias.proofs.Padding.{padded-there, padded-take}
 use Rattle.elias.proofs.Windows.{one-shl, top-list}
-use Rattle.elias.proofs.Zeros.{zeros-agree, zeros-are, zeros-leading}
+use Rattle.elias.proofs.Zeros.{zeros-agree, zeros-are, zeros-within, zeros-leading}
 
 -- ---- gamma
 module _ (s : ℕ) (l : List ℕ) (fits : s < 2 ^ 64) (seen : take 57 (bitsHigh 64 s) ≡ padded 57 l) where
@@ -45,20 +45,27 @@ module _ (s : ℕ) (l : List ℕ) (fits : s < 2 ^ 64) (seen : take 57 (bitsHigh 
       let e = zeros-leading s fits in
       zeros-agree 57 (bitsHigh 64 s) l alike (omega arith) (omega (arith, high-length 64 s)) .0 ∙ e
 
-  pub seen-many : (zeros most : ℕ) → zeros ≤ 32 → zeros < z → refused fault ≡ gammaIn zeros most l
-  seen-many zeros most h k =
-      by-order zeros (zerosFirst l)
-      (λ a. sym (in-many zeros most l a))
-      (λ a. by-order (length l) (2 * zerosFirst l + 1)
-      (λ b. sym (in-short zeros most l a b))
-      (λ b. let e = zeros-agree 57 l (bitsHigh 64 s) (sym alike) (omega arith) (omega arith) .0 in absurd (omega (arith, zeros-leading s fits))))
+  module _ (zeros most : ℕ) (few : zeros ≤ 32) (many : zeros < z) where
+    -- a one that is there comes too late
+    late : zerosFirst l < length l → zeros < zerosFirst l
+    late h =
+        by-order zeros (zerosFirst l) (λ a. a)
+        (λ a. let e = zeros-agree 57 l (bitsHigh 64 s) (sym alike) (omega arith) h .0 in absurd (omega (arith, zeros-leading s fits)))
+
+    -- the zero too many is the list's own, or the list ends before it
+    pub seen-many : refused (cond (ltb zeros (length l)) broken cutShort) ≡ gammaIn zeros most l
+    seen-many =
+        by-order zeros (length l)
+        (λ h. rw (lt-ltb zeros (length l) h) (sym (in-many zeros most l (by-order (zerosFirst l) (length l) late (λ a. omega arith)))))
+        (λ h. let short = by-order (zerosFirst l) (length l) (λ a. absurd (omega (arith, late a))) (λ a. a) in
+        rw (le-ltb zeros (length l) h) (sym (in-short zeros most l (omega (arith, zeros-within l)) (omega (arith, short)))))
 
   module _ (zeros most : ℕ) (few : zeros ≤ 32) (h : z ≤ zeros) where
-    pub seen-short : length l < 2 * z + 1 → refused fault ≡ gammaIn zeros most l
+    pub seen-short : length l < 2 * z + 1 → refused cutShort ≡ gammaIn zeros most l
     seen-short k = let e = seen-zeros (omega arith) in sym (in-short zeros most l (omega arith) (omega arith))
 
     -- a value is given where it is not too large
-    pub seen-value : (v : ℕ) → 2 * z + 1 ≤ length l → v ≡ behind z l → need (leb v most) fault (given (v, 2 * z + 1)) ≡ gammaIn zeros most l
+    pub seen-value : (v : ℕ) → 2 * z + 1 ≤ length l → v ≡ behind z l → need (leb v most) broken (given (v, 2 * z + 1)) ≡ gammaIn zeros most l
     unfolding gammaIn
     seen-value v k e =
         let ez = seen-zeros (omega arith) in
@@ -79,7 +86,7 @@ pub behind-further : (v p z : ℕ) (l : List ℕ) → v ≡ numberHigh 0 (take (
 behind-further v p z l e = e ∙ ap (λ (r : List ℕ). numberHigh 0 (take (z + 1) r)) (sym (drop-drop z p l))
 
 -- ---- delta
-need-then : (b : Bool) (v k : ℕ) → need {A = ℕ × ℕ} b fault (given (v, k)) ≡ bind (need b fault (given v)) (λ x. given (x, k))
+need-then : (b : Bool) (v k : ℕ) → need {A = ℕ × ℕ} b broken (given (v, k)) ≡ bind (need b broken (given v)) (λ x. given (x, k))
 need-then true v k = refl
 need-then false v k = refl
 
@@ -89,12 +96,12 @@ module _ (l : List ℕ) where
   delta-refused e q = rw q
 
   module _ (long size : ℕ) (first : gammaIn 5 33 l ≡ given (long, size)) where
-    pub delta-short : length (drop size l) < long - 1 → refused fault ≡ deltaWord l
+    pub delta-short : length (drop size l) < long - 1 → refused cutShort ≡ deltaWord l
     unfolding deltaWord
     delta-short h = rw (first, rest-short (long - 1) (drop size l) h)
 
     pub delta-value : (v : ℕ) → long - 1 ≤ length (drop size l) → v ≡ numberHigh 1 (take (long - 1) (drop size l))
-        → need (leb v numberLimit) fault (given (v, size + (long - 1))) ≡ deltaWord l
+        → need (leb v numberLimit) broken (given (v, size + (long - 1))) ≡ deltaWord l
     unfolding deltaWord restIn
     delta-value v h e = rw (first, le-leb (long - 1) (length (drop size l)) h, ← e) (need-then (leb v numberLimit) v (size + (long - 1)))
 
@@ -116,7 +123,7 @@ module _ (n t : ℕ) (r : List ℕ) (few : n ≤ 32) (there : n ≤ length r) (e
       omega (arith, shifted, pow-mono {i = n} {j = 32} few)
 
 -- ---- nothing at all
-pub word-none : (form : Form) (l : List ℕ) → length l ≡ 0 → refused fault ≡ wordOf form l
+pub word-none : (form : Form) (l : List ℕ) → length l ≡ 0 → refused cutShort ≡ wordOf form l
 unfolding gammaWord gammaIn deltaWord zerosFirst
 word-none Gamma [] e = refl
 word-none Delta [] e = refl

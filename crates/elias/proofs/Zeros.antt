@@ -58,6 +58,27 @@ zeros-are [] = refl
 zeros-are (zero ∷ bs) = ap (λ (l : List ℕ). 0 ∷ l) (zeros-are bs)
 zeros-are (suc b ∷ bs) = refl
 
+pub zeros-within : (l : List ℕ) → zerosFirst l ≤ length l
+unfolding zerosFirst
+zeros-within [] = omega arith
+zeros-within (zero ∷ bs) = omega (arith, zeros-within bs)
+zeros-within (suc b ∷ bs) = omega arith
+
+-- ---- with bits added
+-- zeros that end at a one are as many
+pub zeros-ended : (l more : List ℕ) → zerosFirst l < length l → zerosFirst (l ++ more) ≡ zerosFirst l
+unfolding zerosFirst
+zeros-ended [] more h = absurd (omega arith)
+zeros-ended (zero ∷ bs) more h = ap suc (zeros-ended bs more (omega arith))
+zeros-ended (suc b ∷ bs) more h = refl
+
+-- none is lost
+pub zeros-added : (l more : List ℕ) → zerosFirst l ≤ zerosFirst (l ++ more)
+unfolding zerosFirst
+zeros-added [] more = omega arith
+zeros-added (zero ∷ bs) more = omega (arith, zeros-added bs more)
+zeros-added (suc b ∷ bs) more = omega arith
+
 -- ---- the machine counts them
 zeros-only : (n : ℕ) → zerosFirst (replicate n 0) ≡ n
 unfolding zerosFirst

@@ -5,8 +5,8 @@ use crate::input::top;
 use crate::word::Codeword;
 use crate::word::Form;
 use crate::word::word_at;
+use meaning::BROKEN;
 use meaning::Bit;
-use meaning::FAULT;
 ghost use mathlib.Core.Path.{_≡_};
 ghost use Prim.Native.Nat.{_+_, _≤_};
 ghost use lib.ListN.{length, take, drop};
@@ -39,12 +39,12 @@ fn quick_gamma(body: &[u8], at: Bit) -> Codeword
     let seen = peek_inside(body, at);
     let z = u64::leading_zeros(seen) as usize;
     if 32 < z {
-        return Codeword::Refused(FAULT);
+        return Codeword::Refused(BROKEN);
     }
     let size = 2 * z + 1;
     let v = behind_zeros(body, at, seen, z);
     if 4294967296 < v {
-        return Codeword::Refused(FAULT);
+        return Codeword::Refused(BROKEN);
     }
     Codeword::Value(v, size)
 }
@@ -60,17 +60,17 @@ fn quick_delta(body: &[u8], at: Bit) -> Codeword
     let seen = peek_inside(body, at);
     let z = u64::leading_zeros(seen) as usize;
     if 5 < z {
-        return Codeword::Refused(FAULT);
+        return Codeword::Refused(BROKEN);
     }
     let size = 2 * z + 1;
     let long = top(seen, size) as usize;
     if 33 < long {
-        return Codeword::Refused(FAULT);
+        return Codeword::Refused(BROKEN);
     }
     let rest = long - 1;
     let v = (1 << rest) + top(seen << size, rest);
     if 4294967296 < v {
-        return Codeword::Refused(FAULT);
+        return Codeword::Refused(BROKEN);
     }
     let whole = size + rest;
     Codeword::Value(v, whole)

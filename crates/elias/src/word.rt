@@ -2,16 +2,18 @@
 use crate::input::peek;
 use crate::input::take_bits;
 use crate::input::top;
+use meaning::BROKEN;
 use meaning::Bit;
-use meaning::FAULT;
+use meaning::CUT_SHORT;
 ghost use mathlib.Core.Path.{_≡_};
 ghost use Prim.Native.Nat.{_+_, _-_, _*_, _<_, _≤_};
-ghost use lib.Dec.{leb};
+ghost use mathlib.Core.Bool.{cond};
+ghost use lib.Dec.{leb, ltb};
 ghost use lib.ListN.{length, drop};
 ghost use Rattle.meaning.specs.Answer.{given, need};
 ghost use Rattle.meaning.specs.Bits.{bitsOf};
 ghost use Rattle.meaning.specs.Elias.{gammaIn, deltaWord};
-ghost use Rattle.meaning.specs.Limits.{fault, mostBytes};
+ghost use Rattle.meaning.specs.Limits.{cutShort, broken, mostBytes};
 ghost use Rattle.elias.specs.Says.{wordSays, wordOf};
 
 // The code that codewords are of.
@@ -28,12 +30,22 @@ pub enum Codeword {
 
 // A value is given where it is not too large.
 fn within(v: u64, most: u64, size: usize) -> Codeword
-    ensures { λ r. ⌜ wordSays r ≡ need (leb v most) fault (given (v, size)) ⌝ }
+    ensures { λ r. ⌜ wordSays r ≡ need (leb v most) broken (given (v, size)) ⌝ }
 {
     if v <= most {
         return Codeword::Value(v, size);
     }
-    Codeword::Refused(FAULT)
+    Codeword::Refused(BROKEN)
+}
+
+// Why more zeros are seen than there may be: so many more bits are there that the one too many is met, or the body ends before it.
+fn sort_of_zeros(left: usize, zeros: usize) -> u8
+    ensures { λ r. ⌜ r ≡ cond (ltb zeros left) broken cutShort ⌝ }
+{
+    if zeros < left {
+        return BROKEN;
+    }
+    CUT_SHORT
 }
 
 // The value in gamma at a bit, with at most so many zeros, and not above `most`. In 57 bits seen at once are 28 zeros and what stands behind them.
@@ -44,13 +56,13 @@ fn gamma_in(body: &[u8], at: Bit, zeros: usize, most: u64) -> Codeword
     let p = at.index;
     let seen = peek(body, at);
     let z = u64::leading_zeros(seen) as usize;
+    let left = 8 * body.len() - p;
     if zeros < z {
-        return Codeword::Refused(FAULT);
+        return Codeword::Refused(sort_of_zeros(left, zeros));
     }
     let size = 2 * z + 1;
-    let left = 8 * body.len() - p;
     if left < size {
-        return Codeword::Refused(FAULT);
+        return Codeword::Refused(CUT_SHORT);
     }
     if z <= 28 {
         return within(top(seen, size), most, size);
@@ -71,7 +83,7 @@ fn delta_at(body: &[u8], at: Bit) -> Codeword
     let n = (long - 1) as usize;
     let left = 8 * body.len() - p;
     if left - size < n {
-        return Codeword::Refused(FAULT);
+        return Codeword::Refused(CUT_SHORT);
     }
     within(
         (1 << n) + take_bits(body, Bit { index: p + size }, n),
@@ -86,7 +98,7 @@ pub fn word_at(body: &[u8], at: Bit, form: Form) -> Codeword
     ensures { λ r. ⌜ wordSays r ≡ wordOf form (drop (at .index) (bitsOf (now (body .entry)))) ⌝ }
 {
     if 8 * body.len() <= at.index {
-        return Codeword::Refused(FAULT);
+        return Codeword::Refused(CUT_SHORT);
     }
     match form {
         Form::Gamma => gamma_in(body, at, 32, 4294967296),

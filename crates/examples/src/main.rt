@@ -1,4 +1,4 @@
-// The examples of document 01 and of requests P1 and P4 that are run, and the errors seen in earlier code, each a line with the refusal's number and the
+// The examples of document 01 and of requests P1, P4 and P5 that are run, and the errors seen in earlier code, each a line with the refusal's number and the
 // numbers read.
 use libc::STDOUT_FILENO;
 use meaning::Found;
@@ -71,6 +71,26 @@ fn looked(name: &[u8], code: u8, body: &[u8], n: usize, place: usize) {
         if n <= 1024 {
             if place < n {
                 let answer = codes::lookup_code(code, body, n, Place { number: place });
+                match answer {
+                    Found::Number(x) => {
+                        number(0);
+                        number(x as u64);
+                    }
+                    Found::Refused(e) => number(e as u64),
+                }
+            }
+        }
+    }
+    end();
+}
+
+// One number of a body by a plan.
+fn looked_by(name: &[u8], plan: &[u8], body: &[u8], n: usize, place: usize) {
+    text(name);
+    if body.len() <= 65536 {
+        if n <= 1024 {
+            if place < n {
+                let answer = plan_look::lookup_list(plan, body, n, Place { number: place });
                 match answer {
                     Found::Number(x) => {
                         number(0);
@@ -268,6 +288,49 @@ fn earlier_errors() {
     );
 }
 
+// Request P5: a body that is cut short is told from one that breaks another rule, by what is met first.
+fn sorts() {
+    let vbyte = [1, 0, 0, 0, 0, 0, 0, 0, 0, 0, 0, 0, 0, 0, 0];
+    let groups = [2, 0, 0, 0, 0, 0, 0, 0, 0, 0, 0, 0, 0, 0, 0];
+    let gamma = [5, 0, 0, 0, 0, 0, 0, 0, 0, 0, 0, 0, 0, 0, 0];
+    let delta = [6, 0, 0, 0, 0, 0, 0, 0, 0, 0, 0, 0, 0, 0, 0];
+    read(b"vbyte 80", &vbyte, &[0x80], 1);
+    read(
+        b"vbyte four bytes of five",
+        &vbyte,
+        &[0xff, 0xff, 0xff, 0xff],
+        1,
+    );
+    read(b"a byte behind a number", &vbyte, &[5, 0], 1);
+    read(b"data missed before an unused field", &groups, &[4], 1);
+    read(
+        b"data missed before a number too long",
+        &groups,
+        &[5, 7, 0, 1],
+        2,
+    );
+    read(b"gamma of 32 zeros", &gamma, &[0, 0, 0, 0], 1);
+    read(b"gamma of 33 zeros", &gamma, &[0, 0, 0, 0, 0], 1);
+    read(b"delta of a length cut", &delta, &[4], 1);
+    read(b"delta of a length of 34", &delta, &[4, 0x40], 1);
+}
+
+// A run stage's values are read before its lengths, and looked up after them; below differences all is taken before anything is summed.
+fn orders() {
+    let runs = [18, 1, 1, 0, 0, 0, 0, 0, 0, 0, 0, 0, 0, 0, 0];
+    let both = [1, 0, 0, 0, 1, 0, 0, 0, 0x80, 0x80, 0];
+    read(b"values cut, lengths broken", &runs, &both, 1);
+    looked_by(b"- looked up", &runs, &both, 1, 0);
+    let under = [17, 18, 1, 1, 0, 0, 0, 0, 0, 0, 0, 0, 0, 0, 0];
+    let two = [2, 0, 0, 0, 1, 0, 0, 0, 0x80, 1, 0x80, 0];
+    looked_by(b"17 18 1 1, a value cut", &under, &two, 4, 0);
+    looked_by(b"17 18 1 1, a length broken", &under, &two, 4, 1);
+    let summed = [17, 16, 1, 0, 0, 0, 0, 0, 0, 0, 0, 0, 0, 0, 0];
+    let large = [255, 255, 255, 255, 1, 0x80];
+    looked_by(b"17 16 1, a sum too large", &summed, &large, 2, 0);
+    looked_by(b"17 16 1, then a number cut", &summed, &large, 2, 1);
+}
+
 fn main() {
     plans();
     bodies();
@@ -275,5 +338,7 @@ fn main() {
     second_batch();
     directly();
     sums();
+    sorts();
+    orders();
     earlier_errors();
 }

@@ -16,7 +16,7 @@ use Rattle.meaning.specs.G8IU.{endBits, blockControl, lengthsBy, blockLengths}
 use Rattle.meaning.proofs.Bounds.{below-nil, below-cons, below-append}
 use Rattle.meaning.proofs.Tests.{both-true}
 use Rattle.leaves.proofs.Joined.{joined-append, joined-one, sum-append}
-use Rattle.words.proofs.LowBits.{bits-number, number-small}
+use Rattle.words.proofs.LowBits.{bits-length, bits-number, number-small}
 use Rattle.g8iu.proofs.Tables.{at-each}
 
 -- ---- bits, lowest first
@@ -97,6 +97,17 @@ lengths-control ls h m =
     ap (λ (n : ℕ). lengthsBy 0 (bitsLow n (numberLow (controlBits ls)))) (sym (bits-eight ls h m))
     ∙ ap (lengthsBy 0) (bits-number (controlBits ls) (bits-below ls)) ∙ lengths-bits ls (8 - sum ls) h
 
+-- the lengths of any bits lie within them
+lengths-within : (k : ℕ) (bits : List ℕ) → sum (lengthsBy k bits) ≤ k + length bits
+unfolding lengthsBy sum
+lengths-within k [] = omega arith
+lengths-within k (zero ∷ bits) = omega (arith, lengths-within 0 bits)
+lengths-within k (suc b ∷ bits) = omega (arith, lengths-within (k + 1) bits)
+
+pub eight-within : (c : ℕ) → sum (blockLengths c) ≤ 8
+unfolding blockLengths
+eight-within c = omega (arith, lengths-within 0 (bitsLow 8 c), bits-length 8 c)
+
 -- ---- one number more: the bit at its last byte falls
 sum-more : (ls : List ℕ) (l : ℕ) → sum (ls ++ (l ∷ [])) ≡ sum ls + l
 unfolding sum
@@ -139,8 +150,8 @@ abbrev sound : ℕ → Bool
 unfolding blockControl blockLengths numberLow bitsLow lengthsBy endBits joined sum ones onesIn leadingZeros
 sound c =
     let ls = blockLengths c in
-    eqb (blockControl ls) c && (eqb (length ls) (8 - ones c) && (leb (sum ls) 8
-    && (eqb (leadingZeros 32 (255 - c)) (32 - sum ls) && cond (leb 16 (255 - c)) (leb (8 - sum ls) 3 && leb 1 (length ls)) (ltb 3 (8 - sum ls)))))
+    eqb (blockControl ls) c && (eqb (length ls) (8 - ones c)
+    && (eqb (leadingZeros 32 (255 - c)) (32 - sum ls) && cond (leb 16 (255 - c)) (leb (8 - sum ls) 3 && leb 1 (length ls)) (ltb 3 (8 - sum ls))))
 
 pub record Control (c : ℕ) (ls : List ℕ) : Type 0 where
   pub back : blockControl ls ≡ c
@@ -155,13 +166,12 @@ unfolding sound blockControl blockLengths numberLow bitsLow lengthsBy endBits jo
 control-is c h =
     let (a, r) = both-true (eqb (blockControl (blockLengths c)) c) _ (at-each 256 sound refl c h) in
     let (b, r₁) = both-true (eqb (length (blockLengths c)) (8 - ones c)) _ r in
-    let (d, r₂) = both-true (leb (sum (blockLengths c)) 8) _ r₁ in
-    let (e, r₃) = both-true (eqb (leadingZeros 32 (255 - c)) (32 - sum (blockLengths c))) _ r₂ in
+    let (d, r₂) = both-true (eqb (leadingZeros 32 (255 - c)) (32 - sum (blockLengths c))) _ r₁ in
     record {
       back = eqb-true _ _ a;
       many = eqb-true _ _ b;
-      within = leb-true _ _ d;
-      top = eqb-true _ _ e;
-      full = λ l. let (f, g) = both-true (leb (8 - sum (blockLengths c)) 3) _ (rw (le-leb 16 (255 - c) l) at r₃) in (leb-true _ _ f, leb-true _ _ g);
-      wasteful = λ l. ltb-true _ _ (rw (lt-leb 16 (255 - c) l) at r₃);
+      within = eight-within c;
+      top = eqb-true _ _ d;
+      full = λ l. let (f, g) = both-true (leb (8 - sum (blockLengths c)) 3) _ (rw (le-leb 16 (255 - c) l) at r₂) in (leb-true _ _ f, leb-true _ _ g);
+      wasteful = λ l. ltb-true _ _ (rw (lt-leb 16 (255 - c) l) at r₂);
     }

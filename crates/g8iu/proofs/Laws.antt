@@ -1,13 +1,13 @@
--- G8IU is lawful: what it writes reads back, what it reads is what would be written, and its size is as told. Assumes nothing.
+-- G8IU is lawful: what it writes reads back, what it reads is what it would write, bytes added change no whole unit, and its size is as told. Assumes nothing.
 use Prim.Native.Nat.{ℕ, suc, _+_, _-_, _≤_, _<_}
 use mathlib.Core.Path.{_≡_, refl, sym, ap, _∙_, subst}
 use mathlib.Core.Bool.{true, not, _||_, or-true}
-use mathlib.Core.List.{List, [], _∷_, _++_}
+use mathlib.Core.List.{List, [], _∷_, _++_, append-nil}
 use native.Mathlib.Omega.{arith}
 use lib.Dec.{leb, eqb}
-use lib.ListN.{length, getD, take, drop, length-append, length-drop, drop-of-length-le}
-use lib.Seq.{drop-at, drop-drop}
-use borrow.Author.Tests.{le-leb, eq-eqb, eqb-true, not-true}
+use lib.ListN.{length, getD, take, drop, length-append, length-drop, drop-of-length-le, List·getD-append}
+use lib.Seq.{drop-at, drop-drop, take-append-le, drop-append-le}
+use borrow.Author.Tests.{le-leb, leb-true, eq-eqb, eqb-true, not-true}
 use Rattle.meaning.specs.Answer.{given}
 use Rattle.meaning.specs.Codes.{codeG8IU, readCode, toLast}
 use Rattle.meaning.specs.Limits.{numberLimit}
@@ -17,12 +17,15 @@ use Rattle.meaning.specs.Positions.{atByte}
 use Rattle.meaning.specs.DataBytes.{dataBytes}
 use Rattle.meaning.specs.G8IU.{fits, block, writeG8IU, blockLengths, blockIn, unitG8IU, joinsG8IU}
 use Rattle.meaning.specs.declared.Position.{Position}
-use Rattle.meaning.proofs.Answers.{Faulty, bind-faulty, need-faulty}
 use Rattle.meaning.proofs.Bounds.{below-nil, below-append, below-left, below-right}
+use Rattle.meaning.proofs.Codes.{byteInside, first-lasts, left-over}
+use Rattle.meaning.proofs.Lasting.{Lasts, lasts-given, lasts-there, lasts-rule, lasts-bind}
 use Rattle.meaning.proofs.Lawful.{Lawful, Read}
 use Rattle.meaning.proofs.Units.{Whole, read-many, read-written, read-holds}
-use Rattle.words.proofs.DataBytes.{data-most, data-faulty}
+use Rattle.leaves.proofs.Parts.{part-length}
+use Rattle.words.proofs.DataBytes.{data-most, data-lasts}
 use Rattle.g8iu.proofs.Blocks.{Stops, cut, stops-full, block-length, write-none, write-next, most, write-small}
+use Rattle.g8iu.proofs.Controls.{eight-within}
 use Rattle.g8iu.proofs.Spares.{fresh}
 use Rattle.g8iu.proofs.Units.{Ends, unit-written, taken, good, Back, unit-back}
 
@@ -161,24 +164,43 @@ back body n xs b e =
       small = h .small;
     }
 
-unit-faulty : (body : List ℕ) (left : ℕ) (p : Position) → Faulty (unitG8IU body left p)
-unfolding unitG8IU blockIn
-unit-faulty body left p =
-    let ls = blockLengths (getD body (p .head .byte) 0) in
-    let bytes = take 8 (drop (p .head .byte + 1) body) in
-    need-faulty (leb (p .head .byte + 9) (length body)) _
-    (bind-faulty (blockIn left ls bytes) _
-    (need-faulty (leb 1 (length ls)) _
-    (need-faulty (leb (length ls) left) _
-    (need-faulty (leb (8 - sum ls) 3 || eqb (length ls) left) _ (need-faulty (all (eqb 0) (drop (sum ls) bytes)) _ (data-faulty ls bytes)))))
-    (λ xs. tt))
+-- ---- bytes added behind a body: a block that is not cut short is the same, and ends within it
+block-lasts : (left : ℕ) (ls bytes : List ℕ) → sum ls ≤ length bytes
+    → Lasts (λ (xs : List ℕ). Unit {0}) (blockIn left ls bytes) (blockIn left ls bytes)
+unfolding blockIn
+block-lasts left ls bytes h =
+    lasts-rule (leb 1 (length ls)) _ _ (λ a.
+    lasts-rule (leb (length ls) left) _ _ (λ b.
+    lasts-rule (leb (8 - sum ls) 3 || eqb (length ls) left) _ _ (λ c.
+    lasts-rule (all (eqb 0) (drop (sum ls) bytes)) _ _ (λ d. rw append-nil at (data-lasts ls bytes [] h)))))
+
+units : (body more : List ℕ) (left : ℕ) (p : Position)
+    → Lasts (λ u. byteInside body p ≡ true → byteInside body (u .0) ≡ true) (unitG8IU body left p) (unitG8IU (body ++ more) left p)
+unfolding unitG8IU
+units body more left p =
+    let at = p .head .byte in
+    lasts-there (leb (at + 9) (length body)) (leb (at + 9) (length (body ++ more))) _ _
+    (λ h. le-leb (at + 9) (length (body ++ more)) (omega (arith, leb-true (at + 9) (length body) h, length-append body more)))
+    (λ h. let within = leb-true (at + 9) (length body) h in
+    let ls = blockLengths (getD body at 0) in
+    let bytes = take 8 (drop (at + 1) body) in
+    let long : length bytes ≡ 8 = part-length body (at + 1) 8 (omega arith) in
+    rw (
+      List·getD-append body more 0 at (omega arith),
+      drop-append-le (at + 1) body more (omega arith),
+      take-append-le 8 (drop (at + 1) body) more (omega (arith, length-drop (at + 1) body)),
+    )
+    (lasts-bind (blockIn left ls bytes) (blockIn left ls bytes) _ _ (block-lasts left ls bytes (omega (arith, eight-within (getD body at 0))))
+    (λ xs e u. lasts-given (atByte (at + 9), xs) (λ i. h))))
 
 pub lawful : Lawful codeG8IU
 lawful =
     record {
       good = λ body b. good body;
-      begins = λ body n. tt;
-      faulty = unit-faulty;
+      inside = byteInside;
+      starts = first-lasts;
+      units = units;
+      over = left-over;
       fresh = fresh;
       forth = λ xs few h. forth xs h;
       back = back;

@@ -14,9 +14,10 @@ use borrow.Author.Tests.{eq-eqb, ne-eqb}
 use Rattle.meaning.specs.Answer.{Answer, given, refused, need}
 use Rattle.meaning.specs.Bytes.{numberOf}
 use Rattle.meaning.specs.DataBytes.{byteLength, dataIn}
-use Rattle.meaning.specs.Limits.{fault}
+use Rattle.meaning.specs.Limits.{broken}
 use Rattle.meaning.specs.Lists.{all, sum}
 use Rattle.meaning.specs.Places.{Below}
+use Rattle.meaning.proofs.Answers.{need-refused}
 use Rattle.meaning.proofs.Bounds.{below-take, below-drop}
 use Rattle.meaning.proofs.Stores.{sets-snoc}
 use Rattle.meaning.proofs.Units.{join}
@@ -27,13 +28,9 @@ use Rattle.g8iu.proofs.Ends.{lengthsOf, FirstIs, first-is, lengths-star
 use Rattle.g8iu.proofs.Masks.{clear-true, clear-false, masked-small, NextIs, number-whole, number-short}
 
 -- ---- the numbers of some lengths: the first, and the rest
-need-join : (b : Bool) (xs : List ℕ) (m : Answer (List ℕ)) → need b fault (join xs m) ≡ join xs (need b fault m)
+need-join : (b : Bool) (xs : List ℕ) (m : Answer (List ℕ)) → need b broken (join xs m) ≡ join xs (need b broken m)
 need-join true xs m = refl
 need-join false xs m = refl
-
-pub need-refused : {A : Type 0} (b : Bool) → need {A = A} b fault (refused fault) ≡ refused fault
-need-refused true = refl
-need-refused false = refl
 
 module _ (l : ℕ) (ls bytes : List ℕ) where
   first-taken : byteLength (numberOf (take l bytes)) ≡ l → numbersIn (l ∷ ls) bytes ≡ join (numberOf (take l bytes) ∷ []) (numbersIn ls (drop l bytes))
@@ -42,9 +39,9 @@ module _ (l : ℕ) (ls bytes : List ℕ) where
       rw (eq-eqb (byteLength (numberOf (take l bytes))) l e, ← (drop-drop (sum ls) l bytes))
       (need-join (all (eqb 0) (drop (sum ls) (drop l bytes))) (numberOf (take l bytes) ∷ []) (dataIn ls (drop l bytes)))
 
-  first-refused : (byteLength (numberOf (take l bytes)) ≡ l → ⊥) → numbersIn (l ∷ ls) bytes ≡ refused fault
+  first-refused : (byteLength (numberOf (take l bytes)) ≡ l → ⊥) → numbersIn (l ∷ ls) bytes ≡ refused broken
   unfolding dataIn
-  first-refused e = rw (ne-eqb (byteLength (numberOf (take l bytes))) l e) (need-refused (all (eqb 0) (drop (sum (l ∷ ls)) bytes)))
+  first-refused e = rw (ne-eqb (byteLength (numberOf (take l bytes))) l e) (need-refused (all (eqb 0) (drop (sum (l ∷ ls)) bytes)) broken)
 
 join-nil : (m : Answer (List ℕ)) → m ≡ join [] m
 join-nil (given xs) = refl
@@ -109,7 +106,7 @@ module _ {body : List ℕ} {at ends : ℕ} {most least out₀ : List ℕ} {to : 
   numbers-long = ap length (so .here) ∙ length-sets out₀ to (so .taken)
 
   -- a block at fault
-  at-fault : numbersAt body at ≡ refused fault → BegunIs body at to out₀ out 0
+  at-fault : numbersAt body at ≡ refused broken → BegunIs body at to out₀ out 0
   at-fault e = record { begun = so .taken; few = omega (arith, so .few); here = so .here; whole = λ h. absurd (h refl); faulty = λ h. e }
 
   -- a number is still to come
@@ -177,7 +174,7 @@ module _ {body : List ℕ} {at ends : ℕ} {most least out₀ : List ℕ} {to : 
 
   -- no number is left: what is left of the data is waste
   module _ (none : coming ≡ 0) where
-    waste-is : numbersAt body at ≡ join (so .taken) (need (all (eqb 0) (so .bytes)) fault (given []))
+    waste-is : numbersAt body at ≡ join (so .taken) (need (all (eqb 0) (so .bytes)) broken (given []))
     unfolding dataIn sum
     waste-is = so .numbers ∙ rw (none, lengths-none (length (so .bytes)) (omega (arith, so .few)))
 
@@ -187,7 +184,7 @@ module _ {body : List ℕ} {at ends : ℕ} {most least out₀ : List ℕ} {to : 
     pub numbers-end : rest ≡ 0 → BegunIs body at to out₀ out next
     numbers-end h =
         let some = so .some none in
-        let e : join (so .taken) (need (all (eqb 0) (so .bytes)) fault (given [])) ≡ orFault (so .taken) =
+        let e : join (so .taken) (need (all (eqb 0) (so .bytes)) broken (given [])) ≡ orFault (so .taken) =
         rw (clear-true (so .bytes) (sym (so .left) ∙ h), append-nil (so .taken)) (or-given (so .taken) some) in
         record {
           begun = so .taken;

@@ -13,7 +13,7 @@ use borrow.Author.Tests.{le-leb, lt-leb, leb-true, eq-eqb, ne-eqb}
 use Rattle.meaning.specs.Answer.{Answer, given, refused, bind, need}
 use Rattle.meaning.specs.DataBytes.{byteLength, dataBytes, dataIn}
 use Rattle.meaning.specs.G8IU.{blockLengths, blockIn, unitG8IU}
-use Rattle.meaning.specs.Limits.{fault, unitPlaces}
+use Rattle.meaning.specs.Limits.{cutShort, broken, unitPlaces}
 use Rattle.meaning.specs.Lists.{all, sum}
 use Rattle.meaning.specs.Places.{UnitIs}
 use Rattle.meaning.specs.Positions.{atByte}
@@ -27,18 +27,18 @@ use Rattle.words.proofs.DataBytes.{data-length, data-lengths, data-many}
 use Rattle.g8iu.specs.Blocks.{allowed, numbersIn, lengthsAt, dataAt, numbersAt, orFault, mostOf, leastOf, Ending, BlockIs}
 use Rattle.g8iu.proofs.Controls.{control-is}
 use Rattle.g8iu.proofs.Ends.{first-is, lengths-start}
-use Rattle.g8iu.proofs.Numbers.{need-refused, or-none, or-some, or-given}
+use Rattle.g8iu.proofs.Numbers.{or-none, or-some, or-given}
 
 -- ---- a unit by its block
-need-and : (a b : Bool) (m : Answer (List ℕ)) → need a fault (need b fault m) ≡ need (a && b) fault m
+need-and : (a b : Bool) (m : Answer (List ℕ)) → need a broken (need b broken m) ≡ need (a && b) broken m
 need-and true b m = refl
 need-and false b m = refl
 
-block-split : (left : ℕ) (ls bytes : List ℕ) → blockIn left ls bytes ≡ need (allowed left ls) fault (numbersIn ls bytes)
+block-split : (left : ℕ) (ls bytes : List ℕ) → blockIn left ls bytes ≡ need (allowed left ls) broken (numbersIn ls bytes)
 unfolding blockIn
 block-split left ls bytes =
     let waste = leb (8 - sum ls) 3 || eqb (length ls) left in
-    ap (need (leb 1 (length ls)) fault) (need-and (leb (length ls) left) waste (numbersIn ls bytes))
+    ap (need (leb 1 (length ls)) broken) (need-and (leb (length ls) left) waste (numbersIn ls bytes))
     ∙ need-and (leb 1 (length ls)) (leb (length ls) left && waste) (numbersIn ls bytes)
 
 module _ (body : List ℕ) (left : ℕ) (p : Position) where
@@ -46,14 +46,14 @@ module _ (body : List ℕ) (left : ℕ) (p : Position) where
   at = p .head .byte
 
   -- a test that fails refuses
-  pub unit-short : leb (at + 9) (length body) ≡ false → unitG8IU body left p ≡ refused fault
+  pub unit-short : leb (at + 9) (length body) ≡ false → unitG8IU body left p ≡ refused cutShort
   unfolding unitG8IU
   unit-short e = rw e
 
   -- the control byte is tested first, and then the numbers
-  pub unit-barred : allowed left (lengthsAt body at) ≡ false → unitG8IU body left p ≡ refused fault
+  pub unit-barred : at + 9 ≤ length body → allowed left (lengthsAt body at) ≡ false → unitG8IU body left p ≡ refused broken
   unfolding unitG8IU
-  unit-barred e = rw (block-split left (lengthsAt body at) (dataAt body at), e) (need-refused (leb (at + 9) (length body)))
+  unit-barred h e = rw (le-leb (at + 9) (length body) h, block-split left (lengthsAt body at) (dataAt body at), e)
 
   pub unit-numbers : at + 9 ≤ length body → allowed left (lengthsAt body at) ≡ true → (a : Answer (List ℕ)) → numbersAt body at ≡ a
       → unitG8IU body left p ≡ bind a (λ xs. given (atByte (at + 9), xs))
@@ -112,7 +112,7 @@ module _ (body : List ℕ) (at : ℕ) (h : getD body at 0 < 256) (xs : List ℕ)
   c = getD body at 0
 
   numbers-are : dataIn (blockLengths c) (dataAt body at) ≡ given xs
-  numbers-are = need-given (all (eqb 0) (drop (sum (blockLengths c)) (dataAt body at))) fault _ xs is .1
+  numbers-are = need-given (all (eqb 0) (drop (sum (blockLengths c)) (dataAt body at))) broken _ xs is .1
 
   lengths-are : map byteLength xs ≡ blockLengths c
   lengths-are = data-lengths (blockLengths c) (dataAt body at) xs numbers-are
@@ -146,9 +146,9 @@ first-of xs n h =
           ∙ rw z (drop-zeros (length xs) n),
     )
 
-pub unit-refused : (body : List ℕ) (left : ℕ) (p : Position) → unitG8IU body left p ≡ refused fault → {r : UnitRead} → UnitIs (refused fault) r
+pub unit-refused : (body : List ℕ) (left : ℕ) (p : Position) {e : ℕ} → unitG8IU body left p ≡ refused e → {r : UnitRead} → UnitIs (refused e) r
     → UnitIs (unitG8IU body left p) r
-unit-refused body left p e is = rw e is
+unit-refused body left p q is = rw q is
 
 -- a block stands at the position, and its control byte is allowed
 pub record Standing (body : List ℕ) (left : ℕ) (p : Position) : Type 0 where
@@ -162,8 +162,8 @@ module _ {body : List ℕ} {left : ℕ} {p : Position} (so : Standing body left 
       record { inside = so .inside; zeros = e; some = rw e (allows-some (so .byte) left (so .allows)); highest = refl; lowest = refl; fits = omega arith }
 
   module _ {numbers : List ℕ} {count : ℕ} (is : BlockIs body (p .head .byte) 0 (replicate unitPlaces 0) numbers count) where
-    pub unit-fault : count ≡ 0 → unitG8IU body left p ≡ refused fault
-    unit-fault e = unit-numbers body left p (so .inside) (so .allows) (refused fault) (is .are ∙ ap orFault (or-none 0 (is .numbers) (sym (is .ends) ∙ e)))
+    pub unit-fault : count ≡ 0 → unitG8IU body left p ≡ refused broken
+    unit-fault e = unit-numbers body left p (so .inside) (so .allows) (refused broken) (is .are ∙ ap orFault (or-none 0 (is .numbers) (sym (is .ends) ∙ e)))
 
     pub unit-next : (count ≡ 0 → ⊥) → UnitIs (unitG8IU body left p) (record { unit = unit.Next (atByte (p .head .byte + 9)) count; numbers = numbers })
     unit-next some =

@@ -11,7 +11,7 @@ use lib.ListN.{length, getD, take, drop, replicate, length-append, length-drop, 
 use lib.Seq.{getD-drop, drop-drop, take-at, drop-append-seam, drop-cons, length-take-le}
 use borrow.Author.Tests.{le-leb, leb-true}
 use Rattle.meaning.specs.Answer.{given}
-use Rattle.meaning.specs.Limits.{fault, numberLimit}
+use Rattle.meaning.specs.Limits.{cutShort, broken, numberLimit}
 use Rattle.meaning.specs.Lists.{all, sum}
 use Rattle.meaning.specs.Places.{Below}
 use Rattle.meaning.specs.Positions.{atByte}
@@ -45,10 +45,10 @@ pub record Passed (left : ℕ) (ls bytes xs : List ℕ) : Type 0 where
 pub passed : (left : ℕ) (ls bytes xs : List ℕ) → blockIn left ls bytes ≡ given xs → Passed left ls bytes xs
 unfolding blockIn
 passed left ls bytes xs e =
-    let (a, ea) = need-given (leb 1 (length ls)) fault _ xs e in
-    let (b, eb) = need-given (leb (length ls) left) fault _ xs ea in
-    let (c, ec) = need-given (leb (8 - sum ls) 3 || eqb (length ls) left) fault _ xs eb in
-    let (d, ed) = need-given (all (eqb 0) (drop (sum ls) bytes)) fault _ xs ec in
+    let (a, ea) = need-given (leb 1 (length ls)) broken _ xs e in
+    let (b, eb) = need-given (leb (length ls) left) broken _ xs ea in
+    let (c, ec) = need-given (leb (8 - sum ls) 3 || eqb (length ls) left) broken _ xs eb in
+    let (d, ed) = need-given (all (eqb 0) (drop (sum ls) bytes)) broken _ xs ec in
     record { some = leb-true _ _ a; few = leb-true _ _ b; ends = c; clear = d; numbers = ed }
 
 pub block-given : (left : ℕ) (ls bytes xs : List ℕ) → Passed left ls bytes xs → blockIn left ls bytes ≡ given xs
@@ -107,7 +107,7 @@ taken body left p u e =
     let at = p .head .byte in
     let ls = blockLengths (getD body at 0) in
     let bytes = take 8 (drop (at + 1) body) in
-    let (a, ea) = need-given (leb (at + 9) (length body)) fault _ u e in
+    let (a, ea) = need-given (leb (at + 9) (length body)) cutShort _ u e in
     let (xs, eb, ec) = bind-given (blockIn left ls bytes) _ u ea in
     let is : (atByte (at + 9), xs) ≡ u = cc in
     record {

@@ -10,7 +10,7 @@ use lib.Seq.{sets}
 use Rattle.meaning.specs.Answer.{Answer, given, refused, need}
 use Rattle.meaning.specs.DataBytes.{dataBytes, dataIn}
 use Rattle.meaning.specs.G8IU.{fits, block, blockLengths}
-use Rattle.meaning.specs.Limits.{fault}
+use Rattle.meaning.specs.Limits.{broken}
 use Rattle.meaning.specs.Lists.{all, sum}
 use Rattle.meaning.specs.Places.{part}
 
@@ -21,7 +21,7 @@ allowed left ls = leb 1 (length ls) && (leb (length ls) left && (leb (8 - sum ls
 
 -- the numbers of these lengths, in data whose waste is 0
 abbrev pub numbersIn : List ℕ → List ℕ → Answer (List ℕ)
-numbersIn ls bytes = need (all (eqb 0) (drop (sum ls) bytes)) fault (dataIn ls bytes)
+numbersIn ls bytes = need (all (eqb 0) (drop (sum ls) bytes)) broken (dataIn ls bytes)
 
 -- the block at an offset of a body: the lengths that its control byte says, its data, and its numbers
 abbrev pub lengthsAt : List ℕ → ℕ → List ℕ
@@ -33,9 +33,9 @@ dataAt body at = take 8 (drop (at + 1) body)
 abbrev pub numbersAt : List ℕ → ℕ → Answer (List ℕ)
 numbersAt body at = numbersIn (lengthsAt body at) (dataAt body at)
 
--- no number means a fault
+-- no number means a block at fault
 abbrev pub orFault : List ℕ → Answer (List ℕ)
-orFault [] = refused fault
+orFault [] = refused broken
 orFault (x ∷ xs) = given (x ∷ xs)
 
 -- the largest number of 1 to 4 bytes, and the smallest that needs them all; no number has 5 to 8 bytes
@@ -72,7 +72,7 @@ pub record BegunIs (body : List ℕ) (at to : ℕ) (out out′ : List ℕ) (r : 
   pub few : length begun ≤ 8
   pub here : out′ ≡ sets out to begun
   pub whole : (r ≡ 0 → ⊥) → BlockIs body at to out out′ r
-  pub faulty : r ≡ 0 → numbersAt body at ≡ refused fault
+  pub faulty : r ≡ 0 → numbersAt body at ≡ refused broken
 
 -- the ends of a plain block at an offset: its waste is at most 3, and its first number did not fit into what the block before left spare
 pub record Plain (body : List ℕ) (at spare ends : ℕ) : Type 0 where

@@ -8,7 +8,8 @@ use leaves::from_byte;
 use leaves::lesser;
 use leaves::taken;
 use leaves::wide;
-use meaning::FAULT;
+use meaning::BROKEN;
+use meaning::CUT_SHORT;
 use meaning::Offset;
 use meaning::Place;
 use meaning::Position;
@@ -22,7 +23,7 @@ ghost use lib.ListN.{length, take};
 ghost use Rattle.meaning.specs.Answer.{refused};
 ghost use Rattle.meaning.specs.Codes.{codeG8IU};
 ghost use Rattle.meaning.specs.G8IU.{blockLengths};
-ghost use Rattle.meaning.specs.Limits.{mostBytes, unitPlaces, fault};
+ghost use Rattle.meaning.specs.Limits.{mostBytes, unitPlaces};
 ghost use Rattle.meaning.specs.Places.{Source, Target, Wrote, UnitIs, Took, Ends, Spare, part};
 ghost use Rattle.meaning.specs.Positions.{atByte};
 ghost use Rattle.g8iu.specs.Blocks.{allowed, Plain};
@@ -46,11 +47,11 @@ pub fn write(list: &[u32], from: Place, n: usize, out: &mut [u8], at: Offset) ->
 }
 
 // A unit that is refused has no numbers.
-fn refusal() -> UnitRead
-    ensures { λ r. ⌜ UnitIs (refused fault) r ⌝ }
+fn refusal(number: u8) -> UnitRead
+    ensures { λ r. ⌜ UnitIs (refused number) r ⌝ }
 {
     UnitRead {
-        unit: Unit::Refused(FAULT),
+        unit: Unit::Refused(number),
         numbers: [0u32; 16],
     }
 }
@@ -81,11 +82,11 @@ pub fn unit(body: &[u8], left: usize, at: Position) -> UnitRead
     let head = at.head;
     let first = head.byte;
     if !has_block(body, head) {
-        return refusal();
+        return refusal(CUT_SHORT);
     }
     let control = body[first];
     if !is_allowed(control, left) {
-        return refusal();
+        return refusal(BROKEN);
     }
     let most = MOST;
     let least = LEAST;
@@ -101,7 +102,7 @@ pub fn unit(body: &[u8], left: usize, at: Position) -> UnitRead
         Place { number: 0 },
     );
     if count.number == 0 {
-        return refusal();
+        return refusal(BROKEN);
     }
     let next = from_byte(Offset { byte: first + 9 });
     UnitRead {

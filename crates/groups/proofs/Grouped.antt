@@ -4,7 +4,9 @@ use mathlib.Core.Path.{_≡_, refl, sym, ap, _∙_, subst}
 use mathlib.Core.Bool.{Bool, true}
 use mathlib.Core.List.{List, [], _∷_, _++_}
 use native.Mathlib.Omega.{arith}
-use lib.ListN.{length, take, drop, length-append, length-take, take-append-drop}
+use lib.Dec.{leb}
+use lib.ListN.{length, take, drop, length-append, length-drop, length-take, take-append-drop}
+use borrow.Author.Tests.{leb-true, le-leb}
 use Rattle.meaning.specs.Answer.{given}
 use Rattle.meaning.specs.Codes.{always}
 use Rattle.meaning.specs.DataBytes.{dataBytes}
@@ -12,13 +14,14 @@ use Rattle.meaning.specs.Groups.{groupCount, controls, groupAt}
 use Rattle.meaning.specs.Limits.{numberLimit}
 use Rattle.meaning.specs.Places.{Below, part}
 use Rattle.meaning.specs.declared.Position.{Position}
-use Rattle.meaning.proofs.Answers.{Faulty, bind-given, bind-faulty}
+use Rattle.meaning.proofs.Answers.{bind-given}
 use Rattle.meaning.proofs.Bounds.{below-nil, below-take, below-drop, below-append}
+use Rattle.meaning.proofs.Lasting.{Lasts, lasts-given, lasts-bind}
 use Rattle.meaning.proofs.Units.{Good, Whole}
 use Rattle.groups.specs.Layouts.{Layout, size, unitBy}
 use Rattle.groups.proofs.Controls.{Fields}
 use Rattle.groups.proofs.Pieces.{first-piece}
-use Rattle.groups.proofs.OneGroup.{written-at, many-at, back-at, faulty-at}
+use Rattle.groups.proofs.OneGroup.{written-at, there-at, many-at, back-at, at-lasts}
 
 -- the group of ys stands at p
 pub record First (g : Layout) (body : List ℕ) (p : Position) (ys : List ℕ) : Type 0 where
@@ -47,6 +50,30 @@ pub record UnitAt (g : Layout) (body : List ℕ) (left : ℕ) (p : Position) (u 
   pub is : (g .next (groupCount (size g left)) p end, u .1) ≡ u
   pub group : groupAt (g .group) body (size g left) (p .head .byte) (g .from (groupCount (size g left)) p) ≡ given (end, u .1)
 
+-- ---- bytes added behind a body
+-- how far a unit that ends at a position reaches
+pub record Reach (g : Layout) (reach : Position → ℕ) : Type 0 where
+  pub ends : (m : ℕ) (p : Position) (end : ℕ) → reach (g .next m p end) ≡ end
+  -- a group that begins within a length, and whose control bytes do, has its data begin within
+  pub begins : (m : ℕ) (p : Position) (long : ℕ) → reach p ≤ long → m ≤ long - p .head .byte → g .from m p ≤ long
+
+-- whether that is within the body
+abbrev pub within : (Position → ℕ) → List ℕ → Position → Bool
+within reach body p = leb (reach p) (length body)
+
+pub unit-lasts : {g : Layout} {reach : Position → ℕ} → Reach g reach → (body more : List ℕ) (left : ℕ) (p : Position)
+    → Lasts (λ u. within reach body p ≡ true → within reach body (u .0) ≡ true) (unitBy g body left p) (unitBy g (body ++ more) left p)
+unit-lasts {g} {reach} r body more left p =
+    let k = size g left in
+    let m = groupCount k in
+    let at = p .head .byte in
+    lasts-bind (groupAt (g .group) body k at (g .from m p)) (groupAt (g .group) (body ++ more) k at (g .from m p)) _ _
+    (at-lasts (g .group) body more k at (g .from m p)) (λ t e stays.
+    let there = there-at (g .group) body k at (g .from m p) t e in
+    lasts-given (g .next m p (t .0), t .1) (λ h.
+    let begins = r .begins m p (length body) (leb-true _ _ h) (omega (arith, length-drop at body)) in
+    rw (r .ends m p (t .0)) (le-leb (t .0) (length body) (stays begins))))
+
 module _ (g : Layout) (by : Fields (g .group)) (body : List ℕ) where
   pub unit-is : (left : ℕ) (p : Position) (u : Position × List ℕ) → unitBy g body left p ≡ given u → UnitAt g body left p u
   unit-is left p u e =
@@ -63,11 +90,6 @@ module _ (g : Layout) (by : Fields (g .group)) (body : List ℕ) where
         some = λ left p u h e. omega (arith, unit-many left p u e, by .any);
         few = λ left p u h e. omega (arith, unit-many left p u e);
       }
-
-  pub unit-faulty : (left : ℕ) (p : Position) → Faulty (unitBy g body left p)
-  unit-faulty left p =
-      bind-faulty (groupAt (g .group) body (size g left) (p .head .byte) (g .from (groupCount (size g left)) p)) _
-      (faulty-at (g .group) body (size g left) (p .head .byte) (g .from (groupCount (size g left)) p)) (λ t. tt)
 
   -- ---- whole bodies
   module _ (At : Position → List ℕ → Type 0) (chain : Chain g body At) where

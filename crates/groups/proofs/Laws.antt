@@ -1,24 +1,27 @@
--- Codes 2, 4 and 7 are lawful: what they write reads back, what they read is what would be written, and their size is as told. Assumes nothing.
+-- Codes 2, 4 and 7 are lawful: what they write reads back, what they read is what would be written, their size is as told, and bytes behind are left over.
+-- Assumes nothing.
 use Prim.Native.Nat.{ℕ, _+_, _-_, _≤_, _<_}
 use mathlib.Core.Path.{_≡_, refl, sym, ap, ap₂, _∙_, subst}
+use mathlib.Core.Bool.{true}
 use mathlib.Core.List.{List, [], _++_}
 use native.Mathlib.Omega.{arith}
 use lib.Dec.{leb}
 use lib.ListN.{length, take, drop, length-append, length-take, length-drop, drop-of-length-le, take-append-drop}
 use lib.Seq.{drop-append-seam, drop-drop, take-add, take-at, drop-at, length-take-le}
-use borrow.Author.Tests.{eq-eqb, eqb-true, le-leb}
+use borrow.Author.Tests.{eq-eqb, eqb-true, leb-true, le-leb}
 use Rattle.meaning.specs.Answer.{given}
 use Rattle.meaning.specs.Codes.{codeBy, codeGroups, codeStream, codeBatches, readCode, always, toLast}
 use Rattle.meaning.specs.DataBytes.{dataBytes}
 use Rattle.meaning.specs.Groups.{Grouping, fours, groupCount, controls, writeGroups, writeStream, unitGroups, unitStream}
-use Rattle.meaning.specs.Limits.{fault, numberLimit}
+use Rattle.meaning.specs.Limits.{cutShort, numberLimit}
 use Rattle.meaning.specs.Lists.{joined}
 use Rattle.meaning.specs.Places.{Below, part}
 use Rattle.meaning.specs.Positions.{atByte, atControl}
 use Rattle.meaning.specs.declared.Position.{Position}
-use Rattle.meaning.proofs.Answers.{bind-given, need-given, need-faulty}
+use Rattle.meaning.proofs.Answers.{bind-given, need-given}
 use Rattle.meaning.proofs.Bounds.{below-append}
-use Rattle.meaning.proofs.Codes.{spare-always}
+use Rattle.meaning.proofs.Codes.{spare-always, past-end, first-lasts, left-over}
+use Rattle.meaning.proofs.Lasting.{Lasts, lasts-given, lasts-there}
 use Rattle.meaning.proofs.Lawful.{Lawful, Read}
 use Rattle.meaning.proofs.Units.{Whole, read-many, read-written, read-holds}
 use Rattle.words.proofs.DataBytes.{data-most, data-small}
@@ -26,7 +29,7 @@ use Rattle.groups.specs.Layouts.{unitBy, behind, apart, toTail}
 use Rattle.groups.proofs.Controls.{Fields, fours-fields, batches-fields}
 use Rattle.groups.proofs.Pieces.{groups-next, groups-none, groups-small, groups-size}
 use Rattle.groups.proofs.Pieces.{controls-none, controls-split, controls-count, controls-small, data-next, stream-size}
-use Rattle.groups.proofs.Grouped.{First, Chain, good, unit-faulty, whole, Holds}
+use Rattle.groups.proofs.Grouped.{First, Chain, Reach, within, unit-lasts, good, whole, Holds}
 
 -- ---- codes 2 and 7: the data follows its control bytes
 record GroupsAt (g : Grouping) (body : List ℕ) (at : ℕ) (xs : List ℕ) : Type 0 where
@@ -105,13 +108,21 @@ groups-forth {g} by xs small =
     read-written (unitBy (behind g) body) always (toLast body) (good (behind g) by body) _ (groups-whole by body (groups-small by xs)) [] (atByte 0) xs
     (record { inside = omega arith; bytes = refl }, small)
 
+abbrev head-byte : Position → ℕ
+head-byte p = p .head .byte
+
+behind-reach : (g : Grouping) → Reach (behind g) head-byte
+behind-reach g = record { ends = λ m p end. refl; begins = λ m p long h there. omega arith }
+
 lawful-by : {g : Grouping} → Fields g → Lawful (codeBy g)
 unfolding unitGroups groupCount
 lawful-by {g} by =
     record {
       good = λ body low. good (behind g) by body;
-      begins = λ body n. tt;
-      faulty = λ body left p. unit-faulty (behind g) by body left p;
+      inside = within head-byte;
+      starts = first-lasts;
+      units = unit-lasts (behind-reach g);
+      over = left-over;
       fresh = spare-always [];
       forth = λ xs few h. groups-forth by xs h;
       back = λ body n xs low. groups-back by body n xs low;
@@ -226,7 +237,7 @@ stream-back : (body : List ℕ) (n : ℕ) (xs : List ℕ) → Below 256 body →
 unfolding readCode unitStream writeStream
 stream-back body n xs low e =
     let (p, ep, er) = bind-given (codeStream .start body n) _ xs e in
-    let (t, eq) = need-given (leb (groupCount n) (length body)) fault (given (atControl 0 (groupCount n))) p ep in
+    let (t, eq) = need-given (leb (groupCount n) (length body)) cutShort (given (atControl 0 (groupCount n))) p ep in
     let many : length xs ≡ n = read-many (unitBy apart body) always (toTail body) (good apart fours-fields body) n [] p xs er in
     let (h, small) = read-holds (unitBy apart body) always (toTail body) (good apart fours-fields body) _ (stream-whole body low) n [] p xs er in
     let at : p ≡ atControl 0 (groupCount (length xs)) = rw many (cc) in
@@ -237,13 +248,28 @@ stream-back body n xs low e =
       small = small;
     }
 
+abbrev tail-byte : Position → ℕ
+tail-byte p = p .tail .byte
+
+apart-reach : Reach apart tail-byte
+apart-reach = record { ends = λ m p end. refl; begins = λ m p long h there. h }
+
+stream-starts : (body more : List ℕ) (n : ℕ)
+    → Lasts (λ p. within tail-byte body p ≡ true) (codeStream .start body n) (codeStream .start (body ++ more) n)
+stream-starts body more n =
+    let m = groupCount n in
+    lasts-there (leb m (length body)) (leb m (length (body ++ more))) _ _
+    (λ t. le-leb m _ (omega (arith, leb-true m (length body) t, length-append body more))) (λ t. lasts-given (atControl 0 m) t)
+
 pub lawful-stream : Lawful codeStream
 unfolding unitStream groupCount
 lawful-stream =
     record {
       good = λ body low. good apart fours-fields body;
-      begins = λ body n. need-faulty (leb (groupCount n) (length body)) _ tt;
-      faulty = λ body left p. unit-faulty apart fours-fields body left p;
+      inside = within tail-byte;
+      starts = stream-starts;
+      units = unit-lasts apart-reach;
+      over = λ body b more p. past-end (p .tail .byte) body b more;
       fresh = spare-always [];
       forth = λ xs few h. stream-forth xs h;
       back = stream-back;

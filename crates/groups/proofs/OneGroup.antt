@@ -1,23 +1,25 @@
--- One group of any grouping, by its control bytes and its data, wherever they stand: a written group reads as its numbers, and what reads as numbers is
--- their group. Assumes nothing.
+-- One group of any grouping, by its control bytes and its data, wherever they stand: a written group reads as its numbers, what reads as numbers is
+-- their group, and bytes added behind a body change none that is not cut short. Assumes nothing.
 use Prim.Native.Nat.{ℕ, _+_, _/_, _^_, _≤_}
 use mathlib.Core.Path.{_≡_, refl, sym, ap, ap₂, _∙_, subst}
 use mathlib.Core.List.{List, _++_, map}
 use native.Mathlib.Omega.{arith}
 use lib.Dec.{leb, eqb}
-use lib.ListN.{length, drop, length-append, take-append-drop}
-use lib.Seq.{drop-drop, length-take-le}
+use lib.ListN.{length, take, drop, length-append, length-drop, drop-of-length-le, take-append-drop}
+use lib.Seq.{drop-drop, length-take-le, take-append-le, drop-append-le}
 use borrow.Author.Tests.{le-leb, eq-eqb, leb-true, eqb-true}
 use Rattle.meaning.specs.Answer.{given}
 use Rattle.meaning.specs.Bytes.{numberOf}
 use Rattle.meaning.specs.DataBytes.{byteLength, dataBytes, dataIn}
 use Rattle.meaning.specs.Groups.{Grouping, groupCount, controlOf, lengthsIn, control, controls, groupIn, groupFrom, groupAt}
-use Rattle.meaning.specs.Limits.{fault, numberLimit}
+use Rattle.meaning.specs.Limits.{cutShort, broken, numberLimit}
 use Rattle.meaning.specs.Lists.{sum}
 use Rattle.meaning.specs.Places.{Below, part}
-use Rattle.meaning.proofs.Answers.{Faulty, bind-given, need-given, bind-faulty, need-faulty}
+use Rattle.meaning.proofs.Answers.{bind-given, need-given}
 use Rattle.meaning.proofs.Bounds.{below-drop, below-take}
-use Rattle.words.proofs.DataBytes.{data-length, data-many, data-written, data-back, data-faulty}
+use Rattle.meaning.proofs.Lasting.{Lasts, lasts-given, lasts-there, lasts-rule, lasts-as, lasts-bind}
+use Rattle.meaning.proofs.Tests.{by-order}
+use Rattle.words.proofs.DataBytes.{data-length, data-many, data-written, data-back, data-lasts}
 use Rattle.groups.proofs.Controls.{Fields, control-in, control-none, lengths-control, lengths-many}
 use Rattle.groups.proofs.Pieces.{controls-number, controls-back}
 
@@ -46,8 +48,8 @@ record Passed (g : Grouping) (k c : ℕ) (bytes xs : List ℕ) : Type 0 where
 passed : (g : Grouping) (k c : ℕ) (bytes xs : List ℕ) → groupIn g k c bytes ≡ given xs → Passed g k c bytes xs
 unfolding groupIn
 passed g k c bytes xs e =
-    let (t, e₁) = need-given (leb (sum (lengthsIn g k c)) (length bytes)) fault _ xs e in
-    let (u, e₂) = need-given (eqb (c / 4 ^ k) 0) fault _ xs e₁ in
+    let (t, e₁) = need-given (leb (sum (lengthsIn g k c)) (length bytes)) cutShort _ xs e in
+    let (u, e₂) = need-given (eqb (c / 4 ^ k) 0) broken _ xs e₁ in
     record { there = leb-true _ _ t; unused = eqb-true _ _ u; numbers = e₂ }
 
 pub group-many : (g : Grouping) (k c : ℕ) (bytes xs : List ℕ) → groupIn g k c bytes ≡ given xs → length xs ≡ k
@@ -88,10 +90,14 @@ stands : (g : Grouping) (body : List ℕ) (k at from : ℕ) (t : ℕ × List ℕ
 unfolding groupAt groupFrom
 stands g body k at from t e =
     let c = numberOf (part body at (groupCount k)) in
-    let (b, e₁) = need-given (leb (groupCount k) (length (drop at body))) fault _ t e in
+    let (b, e₁) = need-given (leb (groupCount k) (length (drop at body))) cutShort _ t e in
     let (xs, eg, e₂) = bind-given (groupIn g k c (drop from body)) _ t e₁ in
     let is : (from + sum (lengthsIn g k c), xs) ≡ t = cc in
     subst (Stands g body k at from) is (record { there = leb-true _ _ b; group = eg; ends = refl })
+
+-- its control bytes are there
+pub there-at : (g : Grouping) (body : List ℕ) (k at from : ℕ) (t : ℕ × List ℕ) → groupAt g body k at from ≡ given t → groupCount k ≤ length (drop at body)
+there-at g body k at from t e = stands g body k at from t e .there
 
 -- a group holds as many numbers as are asked for
 pub many-at : (g : Grouping) (body : List ℕ) (k at from : ℕ) (t : ℕ × List ℕ) → groupAt g body k at from ≡ given t → length (t .1) ≡ k
@@ -122,15 +128,40 @@ back-at {g} by body k at from t low e =
       small = b .small;
     }
 
--- ---- whatever a group is refused by is a fault
-group-faulty : (g : Grouping) (k c : ℕ) (bytes : List ℕ) → Faulty (groupIn g k c bytes)
+-- ---- bytes added behind
+group-lasts : (g : Grouping) (k c : ℕ) (bytes more : List ℕ) → Lasts (λ (xs : List ℕ). Unit {0}) (groupIn g k c bytes) (groupIn g k c (bytes ++ more))
 unfolding groupIn
-group-faulty g k c bytes =
-    need-faulty (leb (sum (lengthsIn g k c)) (length bytes)) _ (need-faulty (eqb (c / 4 ^ k) 0) _ (data-faulty (lengthsIn g k c) bytes))
+group-lasts g k c bytes more =
+    let size = sum (lengthsIn g k c) in
+    lasts-there (leb size (length bytes)) (leb size (length (bytes ++ more))) _ _
+    (λ t. le-leb size _ (omega (arith, leb-true size (length bytes) t, length-append bytes more))) (λ t.
+    lasts-rule (eqb (c / 4 ^ k) 0) _ _ (λ unused. data-lasts (lengthsIn g k c) bytes more (leb-true size (length bytes) t)))
 
-pub faulty-at : (g : Grouping) (body : List ℕ) (k at from : ℕ) → Faulty (groupAt g body k at from)
-unfolding groupAt groupFrom
-faulty-at g body k at from =
-    let c = numberOf (part body at (groupCount k)) in
-    need-faulty (leb (groupCount k) (length (drop at body))) _
-    (bind-faulty (groupIn g k c (drop from body)) _ (group-faulty g k c (drop from body)) (λ xs. tt))
+-- from an offset on too, a body with bytes added begins as it did
+drop-longer : (n : ℕ) (xs more : List ℕ) → (added : List ℕ) × (drop n (xs ++ more) ≡ drop n xs ++ added)
+drop-longer n xs more =
+    by-order (length xs) n
+    (λ past. (drop n (xs ++ more), rw (drop-of-length-le xs {i = n} (omega arith))))
+    (λ within. (more, drop-append-le n xs more within))
+
+-- data that begins within the body ends within it
+from-lasts : (g : Grouping) (body more : List ℕ) (k c from : ℕ)
+    → Lasts (λ t. from ≤ length body → t .0 ≤ length body) (groupFrom g body k c from) (groupFrom g (body ++ more) k c from)
+unfolding groupFrom
+from-lasts g body more k c from =
+    let (added, e) = drop-longer from body more in
+    lasts-bind (groupIn g k c (drop from body)) (groupIn g k c (drop from (body ++ more))) _ _
+    (lasts-as refl (ap (groupIn g k c) e) (group-lasts g k c (drop from body) added)) (λ xs is u.
+    lasts-given (from + sum (lengthsIn g k c), xs) (λ within. omega (arith, passed g k c (drop from body) xs is .there, length-drop from body)))
+
+pub at-lasts : (g : Grouping) (body more : List ℕ) (k at from : ℕ)
+    → Lasts (λ t. from ≤ length body → t .0 ≤ length body) (groupAt g body k at from) (groupAt g (body ++ more) k at from)
+unfolding groupAt
+at-lasts g body more k at from =
+    let m = groupCount k in
+    let here = drop at body in
+    let (added, e) = drop-longer at body more in
+    lasts-there (leb m (length here)) (leb m (length (drop at (body ++ more)))) _ _
+    (λ t. le-leb m _ (omega (arith, leb-true m (length here) t, ap length e, length-append here added))) (λ t.
+    let bytes : take m (drop at (body ++ more)) ≡ take m here = ap (take m) e ∙ take-append-le m here added (leb-true m (length here) t) in
+    lasts-as refl (ap (λ (l : List ℕ). groupFrom g (body ++ more) k (numberOf l) from) bytes) (from-lasts g body more k (numberOf (take m here)) from))

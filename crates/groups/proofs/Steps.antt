@@ -1,9 +1,9 @@
 -- One group, field by field, and its answer as a unit. Assumes nothing.
-use Prim.Native.Nat.{ℕ, zero, suc, _+_, _-_, _/_, _%_, _^_, _≤_, _<_}
+use Prim.Native.Nat.{ℕ, zero, suc, _+_, _-_, _*_, _/_, _%_, _^_, _≤_, _<_}
 use mathlib.Core.Path.{_≡_, refl, sym, ap, _∙_}
 use mathlib.Core.Bool.{Bool, true, false}
 use mathlib.Core.List.{List, [], _∷_, _++_, append-assoc, append-nil}
-use native.Mathlib.Nat.{div-one, add-zero, add-assoc, sub-zero}
+use native.Mathlib.Nat.{div-one, add-zero, zero-add, add-assoc, sub-zero}
 use native.Mathlib.Omega.{arith}
 use lib.Dec.{leb, eqb}
 use lib.ListN.{length, take, drop, set, replicate, length-append, length-drop}
@@ -13,7 +13,7 @@ use Rattle.meaning.specs.Answer.{Answer, given, refused, bind, need}
 use Rattle.meaning.specs.Bytes.{numberOf}
 use Rattle.meaning.specs.DataBytes.{byteLength, dataIn}
 use Rattle.meaning.specs.Groups.{Grouping, groupCount, lengthsIn, groupIn, groupFrom, groupAt}
-use Rattle.meaning.specs.Limits.{fault, unitPlaces}
+use Rattle.meaning.specs.Limits.{cutShort, broken, mostBytes, unitPlaces}
 use Rattle.meaning.specs.Lists.{sum}
 use Rattle.meaning.specs.Places.{UnitIs, part}
 use Rattle.meaning.specs.declared.Position.{Position}
@@ -34,15 +34,14 @@ bind-same (given a) = refl
 bind-same (refused e) = refl
 
 -- the same refusal either way
-needs-refused : {A B : Type 0} (a b : Bool) (k : A → Answer B) → bind (need a fault (need b fault (refused fault))) k ≡ refused fault
-needs-refused true true k = refl
-needs-refused true false k = refl
-needs-refused false b k = refl
+need-refused : {A B : Type 0} (test : Bool) (k : A → Answer B) → bind (need test broken (refused broken)) k ≡ refused broken
+need-refused true k = refl
+need-refused false k = refl
 
 -- a first number goes before those of a group, or after its tests
 first-moves : (a b : Bool) (others : Answer (List ℕ)) (x end : ℕ)
-    → bind {B = ℕ × List ℕ} (need a fault (need b fault (bind others (λ xs. given (x ∷ xs))))) (λ xs. given (end, xs))
-    ≡ bind {A = ℕ × List ℕ} (bind (need a fault (need b fault others)) (λ xs. given (end, xs))) (λ t. given (t .0, x ∷ t .1))
+    → bind {B = ℕ × List ℕ} (need a cutShort (need b broken (bind others (λ xs. given (x ∷ xs))))) (λ xs. given (end, xs))
+    ≡ bind {A = ℕ × List ℕ} (bind (need a cutShort (need b broken others)) (λ xs. given (end, xs))) (λ t. given (t .0, x ∷ t .1))
 first-moves true true (given xs) x end = refl
 first-moves true true (refused e) x end = refl
 first-moves true false others x end = refl
@@ -54,21 +53,57 @@ leb-after l s n h =
     (λ t. lt-leb (l + s) n (omega arith) ∙ sym (lt-leb s (n - l) t))
     (λ t. le-leb (l + s) n (omega arith) ∙ sym (le-leb s (n - l) t))
 
+-- ---- how many bytes of data the fields say
+abbrev dataSize : Grouping → ℕ → ℕ → ℕ
+dataSize g k c = sum (lengthsIn g k c)
+
+size-none : (g : Grouping) (c : ℕ) → dataSize g 0 c ≡ 0
+unfolding lengthsIn sum
+size-none g c = refl
+
+size-more : (g : Grouping) (m c : ℕ) → dataSize g (suc m) c ≡ g .bytes (c % 4) + dataSize g m (c / 4)
+unfolding lengthsIn sum
+size-more g m c = refl
+
+-- the loop that adds them up has added i of k
+pub record Summed (g : Grouping) (k c i control size : ℕ) : Type 0 where
+  pub most : i ≤ k
+  pub few : size ≤ 4 * i
+  pub is : size + dataSize g (k - i) control ≡ dataSize g k c
+
+pub summed-start : (g : Grouping) (k c : ℕ) → Summed g k c 0 c 0
+summed-start g k c = record { most = omega arith; few = omega arith; is = rw (sub-zero k) (zero-add (dataSize g k c)) }
+
+module _ {g : Grouping} {k c i control size : ℕ} (t : Summed g k c i control size) where
+  pub summed-turn : {l : ℕ} → i < k → l ≡ g .bytes (control % 4) → l ≤ 4 → Summed g k c (i + 1) (control / 4) (size + l)
+  summed-turn {l} h el four =
+      let m : k - i ≡ suc (k - (i + 1)) = omega arith in
+      let is : size + dataSize g (suc (k - (i + 1))) control ≡ dataSize g k c = rw m at (t .is) in
+      record { most = omega arith; few = omega (arith, t .few); is = omega (arith, size-more g (k - (i + 1)) control) }
+
+  pub summed-end : k ≤ i → size ≡ dataSize g k c
+  summed-end all =
+      let m : k - i ≡ 0 = omega arith in
+      let is : size + dataSize g 0 control ≡ dataSize g k c = rw m at (t .is) in
+      omega (arith, size-none g control)
+
+-- so many are not there
+group-cut : (g : Grouping) (body : List ℕ) (k c from : ℕ) → length body - from < dataSize g k c → groupFrom g body k c from ≡ refused cutShort
+unfolding groupFrom groupIn
+group-cut g body k c from h = rw (lt-leb (dataSize g k c) (length (drop from body)) (omega (arith, length-drop from body)))
+
 -- ---- a group's first field
 module _ (g : Grouping) (body : List ℕ) (m c to : ℕ) where
   abbrev others : List ℕ
   others = lengthsIn g m (c / 4)
 
-  field-cut : length body - to < g .bytes (c % 4) → groupFrom g body (suc m) c to ≡ refused fault
-  unfolding groupFrom groupIn lengthsIn sum
-  field-cut h = rw (lt-leb (g .bytes (c % 4) + sum others) (length (drop to body)) (omega (arith, length-drop to body)))
-
   module _ (l x : ℕ) (el : l ≡ g .bytes (c % 4)) (ex : x ≡ numberOf (take l (drop to body))) where
-    field-long : (byteLength x ≡ l → ⊥) → groupFrom g body (suc m) c to ≡ refused fault
+    field-long : dataSize g (suc m) c ≤ length body - to → (byteLength x ≡ l → ⊥) → groupFrom g body (suc m) c to ≡ refused broken
     unfolding groupFrom groupIn lengthsIn sum dataIn
-    field-long h =
-        rw (← el, ← ex, ne-eqb (byteLength x) l h)
-        (needs-refused (leb (l + sum others) (length (drop to body))) (eqb (c / 4 ^ suc m) 0) (λ xs. given (to + (l + sum others), xs)))
+    field-long there h =
+        let fits : l + sum others ≤ length (drop to body) = omega (arith, length-drop to body) in
+        rw (← el, ← ex, le-leb (l + sum others) (length (drop to body)) fits, ne-eqb (byteLength x) l h)
+        (need-refused (eqb (c / 4 ^ suc m) 0) (λ xs. given (to + (l + sum others), xs)))
 
     field-next : l ≤ length body - to → byteLength x ≡ l
         → groupFrom g body (suc m) c to ≡ bind (groupFrom g body m (c / 4) (to + l)) (λ t. given (t .0, x ∷ t .1))
@@ -82,7 +117,7 @@ module _ (g : Grouping) (body : List ℕ) (m c to : ℕ) where
 
 -- after the last field
 module _ (g : Grouping) (body : List ℕ) (c to : ℕ) where
-  field-used : (c ≡ 0 → ⊥) → groupFrom g body 0 c to ≡ refused fault
+  field-used : (c ≡ 0 → ⊥) → groupFrom g body 0 c to ≡ refused broken
   unfolding groupFrom groupIn lengthsIn sum dataIn
   field-used h = rw (le-leb 0 (length (drop to body)) (omega arith), div-one c, ne-eqb c 0 h)
 
@@ -100,16 +135,13 @@ so-start g body k c from = record { is = bind-same (groupFrom g body k c from) }
 
 -- what is left is refused, so the whole is
 so-refused : {g : Grouping} {body : List ℕ} {k c from m control to : ℕ} {done : List ℕ} → So g body k c from m control to done
-    → groupFrom g body m control to ≡ refused fault → groupFrom g body k c from ≡ refused fault
+    → groupFrom g body m control to ≡ refused broken → groupFrom g body k c from ≡ refused broken
 so-refused {done = done} so e = sym (so .is) ∙ ap (λ (a : Answer (ℕ × List ℕ)). bind a (λ t. given (t .0, done ++ t .1))) e
 
 module _ {g : Grouping} {body : List ℕ} {k c from m control to : ℕ} {done : List ℕ} where
-  so-cut : So g body k c from (suc m) control to done → length body - to < g .bytes (control % 4) → groupFrom g body k c from ≡ refused fault
-  so-cut so h = so-refused so (field-cut g body m control to h)
-
   module _ {l x : ℕ} (el : l ≡ g .bytes (control % 4)) (ex : x ≡ numberOf (take l (drop to body))) (so : So g body k c from (suc m) control to done) where
-    so-long : (byteLength x ≡ l → ⊥) → groupFrom g body k c from ≡ refused fault
-    so-long h = so-refused so (field-long g body m control to l x el ex h)
+    so-long : dataSize g (suc m) control ≤ length body - to → (byteLength x ≡ l → ⊥) → groupFrom g body k c from ≡ refused broken
+    so-long there h = so-refused so (field-long g body m control to l x el ex there h)
 
     pub so-next : l ≤ length body - to → byteLength x ≡ l → So g body k c from m (control / 4) (to + l) (done ++ (x ∷ []))
     so-next fits e =
@@ -124,7 +156,7 @@ module _ {g : Grouping} {body : List ℕ} {k c from m control to : ℕ} {done : 
 
 module _ {g : Grouping} {body : List ℕ} {k c from control to : ℕ} {done : List ℕ} (so : So g body k c from 0 control to done) where
   -- an unused field is not 0
-  so-used : (control ≡ 0 → ⊥) → groupFrom g body k c from ≡ refused fault
+  so-used : (control ≡ 0 → ⊥) → groupFrom g body k c from ≡ refused broken
   so-used h = so-refused so (field-used g body control to h)
 
   pub so-end : control ≡ 0 → groupFrom g body k c from ≡ given (to, done)
@@ -145,10 +177,11 @@ record FieldIs (g : Grouping) (body : List ℕ) (m c to l x r : ℕ) (xs : List 
 field-given : (g : Grouping) (body : List ℕ) (m c to l x r : ℕ) (xs : List ℕ) → l ≡ g .bytes (c % 4) → x ≡ numberOf (take l (drop to body))
     → groupFrom g body (suc m) c to ≡ given (r, xs) → FieldIs g body m c to l x r xs
 field-given g body m c to l x r xs el ex e =
-    by-order (length body - to) l
-    (λ cut. absurd (not-given fault (r, xs) (sym (field-cut g body m c to (rw el at cut)) ∙ e)))
-    (λ fits. by-test (eqb (byteLength x) l)
+    by-order (length body - to) (dataSize g (suc m) c)
+    (λ cut. absurd (not-given cutShort (r, xs) (sym (group-cut g body (suc m) c to cut) ∙ e)))
+    (λ there. by-test (eqb (byteLength x) l)
     (λ t. let few = eqb-true (byteLength x) l t in
+    let fits : l ≤ length body - to = omega (arith, size-more g m c) in
     let (t, et, eu) = bind-given (groupFrom g body m (c / 4) (to + l)) _ (r, xs) (sym (field-next g body m c to l x el ex fits few) ∙ e) in
     let is : (t .0, x ∷ t .1) ≡ (r, xs) = cc in
     record {
@@ -158,7 +191,7 @@ field-given g body m c to l x r xs el ex e =
       is = ap (λ (u : ℕ × List ℕ). u .1) is;
       rest = et ∙ ap (λ (u : ℕ × List ℕ). given (u .0, t .1)) is;
     })
-    (λ f. absurd (not-given fault (r, xs) (sym (field-long g body m c to l x el ex (eqb-false (byteLength x) l f)) ∙ e))))
+    (λ f. absurd (not-given broken (r, xs) (sym (field-long g body m c to l x el ex there (eqb-false (byteLength x) l f)) ∙ e))))
 
 -- no field is left: nothing more was read
 none-given : (g : Grouping) (body : List ℕ) (c to r : ℕ) (xs : List ℕ) → groupFrom g body 0 c to ≡ given (r, xs) → (to ≡ r) × ([] ≡ xs)
@@ -166,7 +199,7 @@ none-given g body c to r xs e =
     by-test (eqb c 0)
     (λ t. let is : (to, []) ≡ (r, xs) = cc (field-none g body c to (eqb-true c 0 t)) in
     (ap (λ (u : ℕ × List ℕ). u .0) is, ap (λ (u : ℕ × List ℕ). u .1) is))
-    (λ f. absurd (not-given fault (r, xs) (sym (field-used g body c to (eqb-false c 0 f)) ∙ e)))
+    (λ f. absurd (not-given broken (r, xs) (sym (field-used g body c to (eqb-false c 0 f)) ∙ e)))
 
 -- j fields at once, which another grouping's say too
 pub so-fields : {g : Grouping} {body : List ℕ} {k c from m : ℕ} (h : Grouping) (j n control fields to r : ℕ) (done xs : List ℕ)
@@ -194,100 +227,120 @@ abbrev pub fieldsAt : List ℕ → Position → ℕ → ℕ
 fieldsAt body p k = numberOf (part body (p .head .byte) (groupCount k))
 
 module _ (g : Layout) (body : List ℕ) (left : ℕ) (p : Position) where
-  -- its control bytes are there: the unit is the group of their fields
-  pub unit-there : (k c from : ℕ) → groupCount k ≤ length body - p .head .byte → k ≡ size g left → c ≡ fieldsAt body p k → from ≡ g .from (groupCount k) p
-      → unitBy g body left p ≡ bind (groupFrom (g .group) body k c from) (λ t. given (g .next (groupCount k) p (t .0), t .1))
-  unfolding groupAt
-  unit-there k c from h many fields start =
-      let there : groupCount k ≤ length (drop (p .head .byte) body) = rw (← (length-drop (p .head .byte) body)) at h in
-      rw (← many, le-leb (groupCount k) (length (drop (p .head .byte) body)) there, ← fields, ← start)
+  same-refusal : {e : ℕ} {r : UnitRead} → unitBy g body left p ≡ refused e → UnitIs (refused e) r → UnitIs (unitBy g body left p) r
+  same-refusal is u = record { told = rw is (u .told); few = u .few; clear = u .clear }
 
-  same-refusal : {r : UnitRead} → unitBy g body left p ≡ refused fault → UnitIs (refused fault) r → UnitIs (unitBy g body left p) r
-  same-refusal e u = record { told = rw e (u .told); few = u .few; clear = u .clear }
-
-  -- they are not there
-  pub reads-none : {k : ℕ} {r : UnitRead} → k ≡ size g left → length body - p .head .byte < groupCount k → UnitIs (refused fault) r
+  -- the control bytes are not there
+  pub reads-none : {k : ℕ} {r : UnitRead} → k ≡ size g left → length body - p .head .byte < groupCount k → UnitIs (refused cutShort) r
       → UnitIs (unitBy g body left p) r
   unfolding groupAt
   reads-none {k} many h =
       let cut : length (drop (p .head .byte) body) < groupCount k = rw (← (length-drop (p .head .byte) body)) at h in
       same-refusal (rw (← many, lt-leb (groupCount k) (length (drop (p .head .byte) body)) cut))
 
--- the loop that reads the group at p has read i of its k numbers, which stand in the array
-pub record Reads (g : Layout) (body : List ℕ) (left : ℕ) (p : Position) (k i control to : ℕ) (numbers : List ℕ) : Type 0 where
+-- the control bytes of a group of k numbers are there: c are their fields, and its data begins at an offset
+pub record Begun (g : Layout) (body : List ℕ) (left : ℕ) (p : Position) (k c from : ℕ) : Type 0 where
   pub there : groupCount k ≤ length body - p .head .byte
   pub many : k ≡ size g left
+  pub fields : c ≡ fieldsAt body p k
+  pub start : from ≡ g .from (groupCount k) p
+
+module _ {g : Layout} {body : List ℕ} {left : ℕ} {p : Position} where
+  -- so the unit is the group of these fields
+  unit-begun : {k c from : ℕ} → Begun g body left p k c from
+      → unitBy g body left p ≡ bind (groupFrom (g .group) body k c from) (λ t. given (g .next (groupCount k) p (t .0), t .1))
+  unfolding groupAt
+  unit-begun {k} b =
+      let there : groupCount k ≤ length (drop (p .head .byte) body) = rw (← (length-drop (p .head .byte) body)) at (b .there) in
+      rw (← (b .many), le-leb (groupCount k) (length (drop (p .head .byte) body)) there, ← (b .fields), ← (b .start))
+
+  -- but its data is not there
+  pub reads-cut : {k c from : ℕ} {r : UnitRead} → Begun g body left p k c from → length body - from < dataSize (g .group) k c → UnitIs (refused cutShort) r
+      → UnitIs (unitBy g body left p) r
+  reads-cut {k} {c} {from} b h = same-refusal g body left p (unit-begun b ∙ rw (group-cut (g .group) body k c from h))
+
+-- the loop that reads the group at p, whose data is there, has read i of its k numbers, which stand in the array
+pub record Reads (g : Layout) (body : List ℕ) (left : ℕ) (p : Position) (k i control to : ℕ) (numbers : List ℕ) : Type 0 where
+  pub begun : Begun g body left p k (fieldsAt body p k) (g .from (groupCount k) p)
+  pub short : length body ≤ mostBytes
   pub room : k ≤ unitPlaces
   pub most : i ≤ k
+  pub there : dataSize (g .group) (k - i) control ≤ length body - to
   pub done : List ℕ
   pub counted : length done ≡ i
   pub here : numbers ≡ done ++ replicate {A = ℕ} (unitPlaces - i) 0
   pub so : So (g .group) body k (fieldsAt body p k) (g .from (groupCount k) p) (k - i) control to done
 
-pub reads-start : (g : Layout) (body : List ℕ) (left : ℕ) (p : Position) {k m c from : ℕ} → k ≡ size g left → k ≤ unitPlaces → m ≡ groupCount k
-    → m ≤ length body - p .head .byte → c ≡ numberOf (part body (p .head .byte) m) → from ≡ g .from m p
-    → Reads g body left p k 0 c from (replicate {A = ℕ} unitPlaces 0)
-reads-start g body left p {k} many room em there fields start =
+pub reads-start : {g : Layout} {body : List ℕ} {left : ℕ} {p : Position} {k c from : ℕ} → Begun g body left p k c from → length body ≤ mostBytes
+    → k ≤ unitPlaces → dataSize (g .group) k c ≤ length body - from → Reads g body left p k 0 c from (replicate {A = ℕ} unitPlaces 0)
+reads-start {g} {body} {p = p} {k} b short room there =
     record {
-      there = rw em at there;
-      many = many;
+      begun = record { there = b .there; many = b .many; fields = refl; start = refl };
+      short = short;
       room = room;
       most = omega arith;
+      there = rw (sub-zero k) there;
       done = [];
       counted = refl;
       here = refl;
-      so = rw (fields, start, em, sub-zero k) (so-start (g .group) body k (fieldsAt body p k) (g .from (groupCount k) p));
+      so = rw (b .fields, b .start, sub-zero k) (so-start (g .group) body k (fieldsAt body p k) (g .from (groupCount k) p));
     }
 
 module _ {g : Layout} {body : List ℕ} {left : ℕ} {p : Position} where
   module _ {k i control to : ℕ} {numbers : List ℕ} (t : Reads g body left p k i control to numbers) where
-    -- the whole is what is read
-    whole : unitBy g body left p
-        ≡ bind (groupFrom (g .group) body k (fieldsAt body p k) (g .from (groupCount k) p)) (λ t. given (g .next (groupCount k) p (t .0), t .1))
-    whole = unit-there g body left p k _ _ (t .there) (t .many) refl refl
-
-    group-refused : {r : UnitRead} → groupFrom (g .group) body k (fieldsAt body p k) (g .from (groupCount k) p) ≡ refused fault
-        → UnitIs (refused fault) r → UnitIs (unitBy g body left p) r
-    group-refused e = same-refusal g body left p (whole ∙ rw e)
+    group-broken : {r : UnitRead} → groupFrom (g .group) body k (fieldsAt body p k) (g .from (groupCount k) p) ≡ refused broken
+        → UnitIs (refused broken) r → UnitIs (unitBy g body left p) r
+    group-broken e = same-refusal g body left p (unit-begun (t .begun) ∙ rw e)
 
     more : i < k → So (g .group) body k (fieldsAt body p k) (g .from (groupCount k) p) (suc (k - suc i)) control to (t .done)
     more h = let m : k - i ≡ suc (k - suc i) = omega arith in rw m at (t .so)
 
+    pub reads-less : i < k → k - (i + 1) < k - i
+    reads-less h = omega arith
+
+    more-there : i < k → dataSize (g .group) (suc (k - suc i)) control ≤ length body - to
+    more-there h = let m : k - i ≡ suc (k - suc i) = omega arith in rw m at (t .there)
+
     module _ {l : ℕ} (h : i < k) (el : l ≡ g .group .bytes (control % 4)) where
-      pub reads-cut : {r : UnitRead} → length body - to < l → UnitIs (refused fault) r → UnitIs (unitBy g body left p) r
-      reads-cut cut = group-refused (so-cut (more h) (rw el at cut))
+      -- the next number's data is there, and that of the others behind it
+      rest-there : l + dataSize (g .group) (k - suc i) (control / 4) ≤ length body - to
+      rest-there = omega (arith, more-there h, size-more (g .group) (k - suc i) control)
+
+      pub reads-fits : l ≤ length body - to
+      reads-fits = omega (arith, rest-there)
 
       module _ {x : ℕ} (ex : x ≡ numberOf (take l (drop to body))) where
-        pub reads-long : {r : UnitRead} → (byteLength x ≡ l → ⊥) → UnitIs (refused fault) r → UnitIs (unitBy g body left p) r
-        reads-long long = group-refused (so-long el ex (more h) long)
+        pub reads-long : {r : UnitRead} → (byteLength x ≡ l → ⊥) → UnitIs (refused broken) r → UnitIs (unitBy g body left p) r
+        reads-long long = group-broken (so-long el ex (more h) (more-there h) long)
 
-        pub reads-turn : l ≤ length body - to → byteLength x ≡ l → Reads g body left p k (i + 1) (control / 4) (to + l) (set numbers i x)
-        reads-turn fits e =
+        pub reads-turn : byteLength x ≡ l → Reads g body left p k (i + 1) (control / 4) (to + l) (set numbers i x)
+        reads-turn e =
             let room = t .room in
             let places : unitPlaces - i ≡ suc (unitPlaces - (i + 1)) = omega arith in
             let here : numbers ≡ t .done ++ (0 ∷ replicate {A = ℕ} (unitPlaces - (i + 1)) 0) =
             t .here ∙ ap (λ (n : ℕ). t .done ++ replicate {A = ℕ} n 0) places in
             let m : k - (i + 1) ≡ k - suc i = omega arith in
             record {
-              there = t .there;
-              many = t .many;
+              begun = t .begun;
+              short = t .short;
               room = t .room;
               most = omega arith;
+              there = rw m (omega (arith, rest-there));
               done = t .done ++ (x ∷ []);
               counted = length-append (t .done) (x ∷ []) ∙ ap (λ (n : ℕ). n + 1) (t .counted);
               here =
                   ap (λ (ns : List ℕ). set ns i x) here
                   ∙ set-at (t .done) 0 (replicate {A = ℕ} (unitPlaces - (i + 1)) 0) x i (t .counted)
                   ∙ sym (append-assoc (t .done) (x ∷ []) (replicate {A = ℕ} (unitPlaces - (i + 1)) 0));
-              so = rw m (so-next el ex (more h) fits e);
+              so = rw m (so-next el ex (more h) reads-fits e);
             }
 
     module _ (all : k ≤ i) where
       none : So (g .group) body k (fieldsAt body p k) (g .from (groupCount k) p) 0 control to (t .done)
       none = let m : k - i ≡ 0 = omega arith in rw m at (t .so)
 
-      pub reads-used : {r : UnitRead} → (control ≡ 0 → ⊥) → UnitIs (refused fault) r → UnitIs (unitBy g body left p) r
-      reads-used used = group-refused (so-used none used)
+      pub reads-used : {r : UnitRead} → (control ≡ 0 → ⊥) → UnitIs (refused broken) r → UnitIs (unitBy g body left p) r
+      reads-used used = group-broken (so-used none used)
 
       pub reads-end : {q : Position} {m : ℕ} → control ≡ 0 → m ≡ groupCount k → q ≡ g .next m p to
           → UnitIs (unitBy g body left p) (record { unit = unit.Next q k; numbers = numbers })
@@ -297,7 +350,7 @@ module _ {g : Layout} {body : List ℕ} {left : ℕ} {p : Position} where
           let zeros = replicate {A = ℕ} (unitPlaces - i) 0 in
           let taken : take k numbers ≡ t .done = ap (take k) (t .here) ∙ take-at (t .done) zeros k many in
           record {
-            told = rw (whole, so-end none last, next, em, taken);
+            told = rw (unit-begun (t .begun), so-end none last, next, em, taken);
             few = t .room;
             clear = ap (drop k) (t .here) ∙ drop-at (t .done) zeros k many ∙ rw is;
           }

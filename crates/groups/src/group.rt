@@ -2,8 +2,9 @@
 use leaves::from_byte;
 use leaves::lesser;
 use leaves::whole;
+use meaning::BROKEN;
 use meaning::Bit;
-use meaning::FAULT;
+use meaning::CUT_SHORT;
 use meaning::Offset;
 use meaning::Position;
 use meaning::Unit;
@@ -15,7 +16,9 @@ ghost use Prim.Native.Nat.{_<_, _≤_, _+_, _-_, _^_};
 ghost use lib.ListN.{length};
 ghost use Rattle.meaning.specs.Answer.{refused};
 ghost use Rattle.meaning.specs.Bytes.{numberOf};
-ghost use Rattle.meaning.specs.Limits.{mostBytes, fault, unitPlaces};
+ghost use Rattle.meaning.specs.Groups.{lengthsIn};
+ghost use Rattle.meaning.specs.Limits.{mostBytes, unitPlaces};
+ghost use Rattle.meaning.specs.Lists.{sum};
 ghost use Rattle.meaning.specs.Places.{UnitIs, part};
 ghost use Rattle.groups.specs.Layouts.{layoutOf, unitBy};
 
@@ -102,17 +105,34 @@ fn next_of(at: Position, form: Form, bytes: usize, end: Offset) -> Position
     }
 }
 
-fn faulty() -> UnitRead
-    ensures { λ r. ⌜ UnitIs (refused fault) r ⌝ }
+fn refusal(number: u8) -> UnitRead
+    ensures { λ r. ⌜ UnitIs (refused number) r ⌝ }
 {
     let numbers = [0u32; 16];
     UnitRead {
-        unit: Unit::Refused(FAULT),
+        unit: Unit::Refused(number),
         numbers,
     }
 }
 
-// The group at a position, where so many numbers are still to come. A field that is not used is not read: it must be 0.
+// How many bytes of data the first so many fields say.
+fn data_size(form: Form, count: usize, fields: usize) -> usize
+    requires { ⌜ count ≤ unitPlaces ⌝ }
+    ensures { λ r. ⌜ r ≡ sum (lengthsIn (layoutOf form .group) count fields) ⌝ }
+{
+    let mut rest = fields;
+    let mut size: usize = 0;
+    let mut i: usize = 0;
+    while i < count {
+        size += length_of(form, rest % 4);
+        rest = rest / 4;
+        i += 1;
+    }
+    size
+}
+
+// The group at a position, where so many numbers are still to come: its data is there before any of its rules is asked. A field that is not used is not
+// read: it must be 0.
 pub fn group_at(body: &[u8], left: usize, at: Position, form: Form) -> UnitRead
     requires { ⌜ length (now body) ≤ mostBytes ⌝ }
     ensures { λ r. ⌜ UnitIs (unitBy (layoutOf form) (now (body .entry)) left at) r ⌝ }
@@ -121,21 +141,21 @@ pub fn group_at(body: &[u8], left: usize, at: Position, form: Form) -> UnitRead
     let count = lesser(most_of(form), left);
     let bytes = (count + 3) / 4;
     if bytes_from(body.len(), head) < bytes {
-        return faulty();
+        return refusal(CUT_SHORT);
     }
     let start = data_of(at, form, bytes);
     let mut control = fields_at(body, head, bytes);
+    if bytes_from(body.len(), start) < data_size(form, count, control) {
+        return refusal(CUT_SHORT);
+    }
     let mut to = start.byte;
     let mut numbers = [0u32; 16];
     let mut i: usize = 0;
     while i < count {
         let len = length_of(form, control % 4);
-        if bytes_from(body.len(), Offset { byte: to }) < len {
-            return faulty();
-        }
         let x = number_at(body, Offset { byte: to }, len);
         if byte_length(x) != len {
-            return faulty();
+            return refusal(BROKEN);
         }
         numbers[i] = x;
         control = control / 4;
@@ -143,7 +163,7 @@ pub fn group_at(body: &[u8], left: usize, at: Position, form: Form) -> UnitRead
         i += 1;
     }
     if control != 0 {
-        return faulty();
+        return refusal(BROKEN);
     }
     let next = next_of(at, form, bytes, Offset { byte: to });
     UnitRead {

@@ -3,9 +3,10 @@ use Prim.Native.Nat.{ℕ}
 use mathlib.Core.Path.{_≡_, refl}
 use mathlib.Core.Bool.{Bool, true, false, cond}
 use mathlib.Core.List.{List}
+use mathlib.Core.Logic.{_⊎_, inl, inr}
 use native.Mathlib.Omega.{arith}
 use Rattle.meaning.specs.Answer.{Answer, given, refused, bind, need, number, amount}
-use Rattle.meaning.specs.Limits.{fault}
+use Rattle.meaning.specs.Limits.{cutShort, broken}
 
 pub not-given : {A : Type 0} (e : ℕ) (a : A) → refused e ≡ given a → ⊥
 not-given e a q = let z : _≡_ {A = ℕ} 0 1 = cc in omega arith
@@ -36,18 +37,28 @@ pub amount-number : (m : Answer (List ℕ)) → number (amount m) ≡ number m
 amount-number (given xs) = refl
 amount-number (refused e) = refl
 
--- the one refusal of a body is 9
+-- the two sorts of a body's faults: 9, and 13
+abbrev pub Sort : ℕ → Type 0
+Sort e = (e ≡ cutShort) ⊎ (e ≡ broken)
+
+abbrev pub a-cut : Sort cutShort
+a-cut = inl refl
+
+abbrev pub a-break : Sort broken
+a-break = inr refl
+
+-- whatever a body is refused by is one of them
 abbrev pub Faulty : {A : Type 0} → Answer A → Type 0
 Faulty (given a) = Unit {0}
-Faulty (refused e) = e ≡ fault
+Faulty (refused e) = Sort e
 
 pub bind-faulty : {A B : Type 0} (m : Answer A) (k : A → Answer B) → Faulty m → ((a : A) → Faulty (k a)) → Faulty (bind m k)
 bind-faulty (given a) k h j = j a
 bind-faulty (refused e) k h j = h
 
-pub need-faulty : {A : Type 0} (b : Bool) (m : Answer A) → Faulty m → Faulty (need b fault m)
-need-faulty true m h = h
-need-faulty false m h = refl
+pub need-faulty : {A : Type 0} (b : Bool) (e : ℕ) (m : Answer A) → Sort e → Faulty m → Faulty (need b e m)
+need-faulty true e m s h = h
+need-faulty false e m s h = s
 
 pub cond-faulty : {A : Type 0} (b : Bool) (m n : Answer A) → Faulty m → Faulty n → Faulty (cond b m n)
 cond-faulty true m n h k = h

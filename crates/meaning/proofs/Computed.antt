@@ -21,7 +21,7 @@ use Rattle.meaning.specs.Rank.{onesBefore, oneAt, rank, select}
 use Rattle.meaning.specs.Sheet.{isEdition, ofKind, entrySize, entryBytes, assemble, sheetBytes, worstSheet}
 use Rattle.meaning.specs.Sheet.{columnsIn, columnsOf, isSheet, tableHolds, sound, readColumn, checkColumn, largestCount}
 use Rattle.meaning.specs.Stages.{leastOf, least, lessBefore, sumsFrom, valuesAfter, lengthsAfter, runValues, runLengths, unroll, write}
-use Rattle.meaning.specs.Stages.{small, raised, summed, unrolled, runHeader, read, within, total, seek, look}
+use Rattle.meaning.specs.Stages.{small, raised, summed, unrolled, runHeader, read, within, numbersTo, seek, look, numbersThrough}
 use Rattle.meaning.specs.Texts.{text, decimalIn, digits, line, counting, refusedOr, kindText, unfilled}
 use Rattle.meaning.specs.Texts.{columnLine, numberLine, columnLines, listingLines, listingText, boardLines, boardText}
 use Rattle.meaning.specs.Units.{readFrom, readUnits, lookFrom, lookUnits}
@@ -48,7 +48,7 @@ unfolding
     isEdition ofKind entrySize entryBytes assemble sheetBytes worstSheet
     columnsIn columnsOf isSheet tableHolds sound readColumn checkColumn largestCount
     leastOf least lessBefore sumsFrom valuesAfter lengthsAfter runValues runLengths unroll write
-    small raised summed unrolled runHeader read within total seek look
+    small raised summed unrolled runHeader read within numbersTo seek look numbersThrough
     text decimalIn digits line counting refusedOr kindText unfilled
     columnLine numberLine columnLines listingLines listingText boardLines boardText
     readFrom readUnits lookFrom lookUnits

@@ -1,4 +1,4 @@
--- The other marked examples, the decisions of docs/DECISIONS.md (d1 to d13; p1, p3, p4 for requests P1, P3, P4) and the order of refusals, computed.
+-- The other marked examples, the decisions of docs/DECISIONS.md (d1 to d13; p1, p3, p4, p5 for requests P1, P3, P4, P5) and the order of refusals, computed.
 -- Assumes nothing.
 use Prim.Native.Nat.{ℕ}
 use mathlib.Core.Path.{_≡_, refl}
@@ -18,17 +18,17 @@ abbrev entry : ℕ → ℕ → ℕ → List ℕ
 entry kind count size = kind ∷ 1 ∷ replicate 14 0 ++ (word count ++ word size)
 
 -- 80 00: the last byte is not 0 unless alone
-vbyte-last-zero : read (code 1) (0x80 ∷ 0x00 ∷ []) 1 ≡ refused 9
+vbyte-last-zero : read (code 1) (0x80 ∷ 0x00 ∷ []) 1 ≡ refused 13
 unfolding meaning
 vbyte-last-zero = refl
 
 -- a fifth byte of 10
-vbyte-fifth : read (code 1) (0xff ∷ 0xff ∷ 0xff ∷ 0xff ∷ 0x10 ∷ []) 1 ≡ refused 9
+vbyte-fifth : read (code 1) (0xff ∷ 0xff ∷ 0xff ∷ 0xff ∷ 0x10 ∷ []) 1 ≡ refused 13
 unfolding meaning
 vbyte-fifth = refl
 
 -- ending 01 02: the reference is not the least
-reference-not-least : read (planOf (16 ∷ 1 ∷ replicate 13 0)) (0xe8 ∷ 0x03 ∷ 0 ∷ 0 ∷ 1 ∷ 2 ∷ []) 2 ≡ refused 9
+reference-not-least : read (planOf (16 ∷ 1 ∷ replicate 13 0)) (0xe8 ∷ 0x03 ∷ 0 ∷ 0 ∷ 1 ∷ 2 ∷ []) 2 ≡ refused 13
 unfolding meaning
 reference-not-least = refl
 
@@ -103,12 +103,12 @@ unfolding meaning
 d5-empty-runs = refl
 
 -- a nonzero reference of an empty list
-d5-empty-reference : read (planOf (16 ∷ 1 ∷ replicate 13 0)) (1 ∷ 0 ∷ 0 ∷ 0 ∷ []) 0 ≡ refused 9
+d5-empty-reference : read (planOf (16 ∷ 1 ∷ replicate 13 0)) (1 ∷ 0 ∷ 0 ∷ 0 ∷ []) 0 ≡ refused 13
 unfolding meaning
 d5-empty-reference = refl
 
 -- a lookup examines the unused fields of its own unit
-d6-unused-field : look (code 2) (0x04 ∷ 7 ∷ []) 1 0 ≡ refused 9
+d6-unused-field : look (code 2) (0x04 ∷ 7 ∷ []) 1 0 ≡ refused 13
 unfolding meaning
 d6-unused-field = refl
 
@@ -123,7 +123,7 @@ unfolding meaning
 d6-controls = refl
 
 -- a block that leaves room for the next number is a fault to reading
-d7-room-read : read (code 3) (224 ∷ 1 ∷ 2 ∷ 3 ∷ 4 ∷ 5 ∷ 0 ∷ 0 ∷ 0 ∷ 254 ∷ 6 ∷ 0 ∷ 0 ∷ 0 ∷ 0 ∷ 0 ∷ 0 ∷ 0 ∷ []) 6 ≡ refused 9
+d7-room-read : read (code 3) (224 ∷ 1 ∷ 2 ∷ 3 ∷ 4 ∷ 5 ∷ 0 ∷ 0 ∷ 0 ∷ 254 ∷ 6 ∷ 0 ∷ 0 ∷ 0 ∷ 0 ∷ 0 ∷ 0 ∷ 0 ∷ []) 6 ≡ refused 13
 unfolding meaning
 d7-room-read = refl
 
@@ -137,12 +137,12 @@ d8-place-1 : look (planOf (16 ∷ 1 ∷ replicate 13 0)) (0xff ∷ 0xff ∷ 0xff
 unfolding meaning
 d8-place-1 = refl
 
-d8-place-0 : look (planOf (16 ∷ 1 ∷ replicate 13 0)) (0xff ∷ 0xff ∷ 0xff ∷ 0xff ∷ 1 ∷ 0 ∷ []) 2 0 ≡ refused 9
+d8-place-0 : look (planOf (16 ∷ 1 ∷ replicate 13 0)) (0xff ∷ 0xff ∷ 0xff ∷ 0xff ∷ 1 ∷ 0 ∷ []) 2 0 ≡ refused 13
 unfolding meaning
 d8-place-0 = refl
 
 -- a list of kind 1 that falls is a fault, in column 1
-d9-fall : check (1 ∷ 2 ∷ entry 0 2 2 ++ (entry 1 2 2 ++ (2 ∷ 1 ∷ 2 ∷ 1 ∷ []))) 16 ≡ blamed 9 1
+d9-fall : check (1 ∷ 2 ∷ entry 0 2 2 ++ (entry 1 2 2 ++ (2 ∷ 1 ∷ 2 ∷ 1 ∷ []))) 16 ≡ blamed 13 1
 unfolding meaning
 d9-fall = refl
 
@@ -185,7 +185,7 @@ unfolding meaning
 d12-two = refl
 
 -- the refusal's line alone, with the column at fault
-d12-fault : listingText (1 ∷ 2 ∷ entry 1 1 1 ++ (entry 0 1 2 ++ (7 ∷ 128 ∷ 0 ∷ []))) ≡ text "refused 9 column 1\n"
+d12-fault : listingText (1 ∷ 2 ∷ entry 1 1 1 ++ (entry 0 1 2 ++ (7 ∷ 128 ∷ 0 ∷ []))) ≡ text "refused 13 column 1\n"
 unfolding meaning
 d12-fault = refl
 
@@ -273,15 +273,15 @@ p1-second-batch-cut : look (code 7) (replicate 4 255 ++ replicate 16 9) 17 15 �
 unfolding meaning
 p1-second-batch-cut = refl
 
-p1-later-in-batch : look (code 7) (0xbf ∷ 1 ∷ 2 ∷ 3 ∷ 4 ∷ 0 ∷ []) 4 0 ≡ refused 9
+p1-later-in-batch : look (code 7) (0xbf ∷ 1 ∷ 2 ∷ 3 ∷ 4 ∷ 0 ∷ []) 4 0 ≡ refused 13
 unfolding meaning
 p1-later-in-batch = refl
 
-p1-unused-field : look (code 7) (0x0b ∷ 0 ∷ []) 1 0 ≡ refused 9
+p1-unused-field : look (code 7) (0x0b ∷ 0 ∷ []) 1 0 ≡ refused 13
 unfolding meaning
 p1-unused-field = refl
 
-p1-left-over : read (code 7) (0x03 ∷ 0 ∷ 0 ∷ []) 1 ≡ refused 9
+p1-left-over : read (code 7) (0x03 ∷ 0 ∷ 0 ∷ []) 1 ≡ refused 13
 unfolding meaning
 p1-left-over = refl
 
@@ -304,11 +304,11 @@ p3-equal-pass : check (1 ∷ 1 ∷ entry 1 2 2 ++ (3 ∷ 3 ∷ [])) 16 ≡ passe
 unfolding meaning
 p3-equal-pass = refl
 
-p3-equal-fault : check (2 ∷ 1 ∷ entry 1 2 2 ++ (3 ∷ 3 ∷ [])) 16 ≡ blamed 9 0
+p3-equal-fault : check (2 ∷ 1 ∷ entry 1 2 2 ++ (3 ∷ 3 ∷ [])) 16 ≡ blamed 13 0
 unfolding meaning
 p3-equal-fault = refl
 
-p3-equal-read : readSheet (2 ∷ 1 ∷ entry 1 2 2 ++ (3 ∷ 3 ∷ [])) 0 14 2 ≡ refused 9
+p3-equal-read : readSheet (2 ∷ 1 ∷ entry 1 2 2 ++ (3 ∷ 3 ∷ [])) 0 14 2 ≡ refused 13
 unfolding meaning
 p3-equal-read = refl
 
@@ -332,7 +332,7 @@ unfolding meaning
 p3-inner = refl
 
 -- equal job numbers, 12 in edition 1 (d11-equal-jobs), do not pass the check
-p3-board : boardVerdict (2 ∷ 2 ∷ entry 1 2 2 ++ (entry 0 2 2 ++ (3 ∷ 3 ∷ 0 ∷ 0 ∷ []))) 16 ≡ blamed 9 0
+p3-board : boardVerdict (2 ∷ 2 ∷ entry 1 2 2 ++ (entry 0 2 2 ++ (3 ∷ 3 ∷ 0 ∷ 0 ∷ []))) 16 ≡ blamed 13 0
 unfolding meaning
 p3-board = refl
 
@@ -390,7 +390,7 @@ unfolding meaning
 p4-far = refl
 
 -- reading asks for spare bits, for the last bit and for as many ones as numbers; a lookup does not
-p4-spare-read : read (code 8) (1 ∷ 0 ∷ 0 ∷ 0 ∷ 3 ∷ 5 ∷ []) 1 ≡ refused 9
+p4-spare-read : read (code 8) (1 ∷ 0 ∷ 0 ∷ 0 ∷ 3 ∷ 5 ∷ []) 1 ≡ refused 13
 unfolding meaning
 p4-spare-read = refl
 
@@ -399,11 +399,11 @@ unfolding meaning
 p4-spare-looked = refl
 
 -- a spare bit ends no number
-p4-spare-end : look (code 8) (1 ∷ 0 ∷ 0 ∷ 0 ∷ 3 ∷ 5 ∷ []) 2 1 ≡ refused 9
+p4-spare-end : look (code 8) (1 ∷ 0 ∷ 0 ∷ 0 ∷ 3 ∷ 5 ∷ []) 2 1 ≡ refused 13
 unfolding meaning
 p4-spare-end = refl
 
-p4-last-read : read (code 8) (2 ∷ 0 ∷ 0 ∷ 0 ∷ 1 ∷ 5 ∷ 6 ∷ []) 1 ≡ refused 9
+p4-last-read : read (code 8) (2 ∷ 0 ∷ 0 ∷ 0 ∷ 1 ∷ 5 ∷ 6 ∷ []) 1 ≡ refused 13
 unfolding meaning
 p4-last-read = refl
 
@@ -411,7 +411,7 @@ p4-last-looked : look (code 8) (2 ∷ 0 ∷ 0 ∷ 0 ∷ 1 ∷ 5 ∷ 6 ∷ []) 1 
 unfolding meaning
 p4-last-looked = refl
 
-p4-more-ones : read (code 8) (2 ∷ 0 ∷ 0 ∷ 0 ∷ 3 ∷ 5 ∷ 6 ∷ []) 1 ≡ refused 9
+p4-more-ones : read (code 8) (2 ∷ 0 ∷ 0 ∷ 0 ∷ 3 ∷ 5 ∷ 6 ∷ []) 1 ≡ refused 13
 unfolding meaning
 p4-more-ones = refl
 
@@ -420,11 +420,11 @@ unfolding meaning
 p4-more-looked = refl
 
 -- at most four bytes, and the fewest
-p4-five-bytes : look (code 8) (5 ∷ 0 ∷ 0 ∷ 0 ∷ 0x10 ∷ 1 ∷ 2 ∷ 3 ∷ 4 ∷ 5 ∷ []) 1 0 ≡ refused 9
+p4-five-bytes : look (code 8) (5 ∷ 0 ∷ 0 ∷ 0 ∷ 0x10 ∷ 1 ∷ 2 ∷ 3 ∷ 4 ∷ 5 ∷ []) 1 0 ≡ refused 13
 unfolding meaning
 p4-five-bytes = refl
 
-p4-longer : look (code 8) (2 ∷ 0 ∷ 0 ∷ 0 ∷ 2 ∷ 5 ∷ 0 ∷ []) 1 0 ≡ refused 9
+p4-longer : look (code 8) (2 ∷ 0 ∷ 0 ∷ 0 ∷ 2 ∷ 5 ∷ 0 ∷ []) 1 0 ≡ refused 13
 unfolding meaning
 p4-longer = refl
 
@@ -437,7 +437,7 @@ unfolding meaning
 p4-true-sums = refl
 
 -- a false sum is a fault to reading, and a lookup goes by it: place 11 is the second number after 10 that end before the second stretch
-p4-false-read : read (code 8) (summed (10 ∷ 0 ∷ 0 ∷ 4 ∷ [])) 1024 ≡ refused 9
+p4-false-read : read (code 8) (summed (10 ∷ 0 ∷ 0 ∷ 4 ∷ [])) 1024 ≡ refused 13
 unfolding meaning
 p4-false-read = refl
 
@@ -446,7 +446,7 @@ unfolding meaning
 p4-false-looked = refl
 
 -- sums that fall: none is above the place, and no bit follows the last
-p4-falling : look (code 8) (summed (10 ∷ 0 ∷ 5 ∷ 0 ∷ [])) 1024 11 ≡ refused 9
+p4-falling : look (code 8) (summed (10 ∷ 0 ∷ 5 ∷ 0 ∷ [])) 1024 11 ≡ refused 13
 unfolding meaning
 p4-falling = refl
 
@@ -455,7 +455,7 @@ p4-reference-first : look (reference (code 8)) (1 ∷ 0 ∷ 0 ∷ 0 ∷ 3 ∷ 0 
 unfolding meaning
 p4-reference-first = refl
 
-p4-differences-second : look (differences (code 8)) (3 ∷ 0 ∷ 0 ∷ 0 ∷ 6 ∷ 5 ∷ 0 ∷ 9 ∷ []) 2 1 ≡ refused 9
+p4-differences-second : look (differences (code 8)) (3 ∷ 0 ∷ 0 ∷ 0 ∷ 6 ∷ 5 ∷ 0 ∷ 9 ∷ []) 2 1 ≡ refused 13
 unfolding meaning
 p4-differences-second = refl
 
@@ -488,3 +488,123 @@ p4-select = refl
 p4-select-beyond : select (0x45 ∷ 0x80 ∷ []) 4 ≡ refused 6
 unfolding meaning
 p4-select-beyond = refl
+
+-- a VByte number that does not end is cut short, wherever its bytes stop; a fifth byte above 15 breaks the rule once met
+p5-vbyte-cut : read (code 1) (0x80 ∷ []) 1 ≡ refused 9
+unfolding meaning
+p5-vbyte-cut = refl
+
+p5-vbyte-four : read (code 1) (0xff ∷ 0xff ∷ 0xff ∷ 0xff ∷ []) 1 ≡ refused 9
+unfolding meaning
+p5-vbyte-four = refl
+
+p5-vbyte-fifth : read (code 1) (0xff ∷ 0xff ∷ 0xff ∷ 0xff ∷ 0x80 ∷ []) 1 ≡ refused 13
+unfolding meaning
+p5-vbyte-fifth = refl
+
+-- a group's data is missed before its rules are asked: an unused field that is not 0, a number not in the fewest bytes
+p5-group-cut : read (code 2) (4 ∷ []) 1 ≡ refused 9
+unfolding meaning
+p5-group-cut = refl
+
+p5-group-fewest : read (code 2) (5 ∷ 7 ∷ 0 ∷ 1 ∷ []) 2 ≡ refused 9
+unfolding meaning
+p5-group-fewest = refl
+
+p5-group-whole : read (code 2) (5 ∷ 7 ∷ 0 ∷ 1 ∷ 2 ∷ []) 2 ≡ refused 13
+unfolding meaning
+p5-group-whole = refl
+
+p5-batch-mask : read (code 7) (0xff ∷ []) 5 ≡ refused 9
+unfolding meaning
+p5-batch-mask = refl
+
+-- a block of fewer than nine bytes is cut short, whatever it and the block before say
+p5-block-cut : read (code 3) (0xff ∷ 0 ∷ 0 ∷ 0 ∷ 0 ∷ 0 ∷ 0 ∷ 0 ∷ []) 8 ≡ refused 9
+unfolding meaning
+p5-block-cut = refl
+
+p5-block-wrong : read (code 3) (0xff ∷ 0 ∷ 0 ∷ 0 ∷ 0 ∷ 0 ∷ 0 ∷ 0 ∷ 0 ∷ []) 8 ≡ refused 13
+unfolding meaning
+p5-block-wrong = refl
+
+p5-block-after : read (code 3) (0xe0 ∷ 1 ∷ 2 ∷ 3 ∷ 4 ∷ 5 ∷ 0 ∷ 0 ∷ 0 ∷ 0xfe ∷ 6 ∷ []) 6 ≡ refused 9
+unfolding meaning
+p5-block-after = refl
+
+-- gamma: 32 zeros may come and then the body ends; the 33rd breaks the rule
+p5-gamma-cut : read (code 5) (0 ∷ 0 ∷ 0 ∷ 0 ∷ []) 1 ≡ refused 9
+unfolding meaning
+p5-gamma-cut = refl
+
+p5-gamma-zeros : read (code 5) (0 ∷ 0 ∷ 0 ∷ 0 ∷ 0 ∷ []) 1 ≡ refused 13
+unfolding meaning
+p5-gamma-zeros = refl
+
+-- delta: the sixth zero; a length whose bits are cut; a length of 34 before its value is missed
+p5-delta-zeros : read (code 6) (0 ∷ []) 1 ≡ refused 13
+unfolding meaning
+p5-delta-zeros = refl
+
+p5-delta-cut : read (code 6) (4 ∷ []) 1 ≡ refused 9
+unfolding meaning
+p5-delta-cut = refl
+
+p5-delta-length : read (code 6) (4 ∷ 0x40 ∷ []) 1 ≡ refused 13
+unfolding meaning
+p5-delta-length = refl
+
+-- the 8 bytes of a run stage are one header; then the run count, then the length of the values body
+p5-runs-header : read (runs (code 1) (code 1)) (9 ∷ 0 ∷ 0 ∷ 0 ∷ 0 ∷ 0 ∷ 0 ∷ []) 1 ≡ refused 9
+unfolding meaning
+p5-runs-header = refl
+
+p5-runs-count : read (runs (code 1) (code 1)) (9 ∷ 0 ∷ 0 ∷ 0 ∷ 9 ∷ 0 ∷ 0 ∷ 0 ∷ []) 1 ≡ refused 13
+unfolding meaning
+p5-runs-count = refl
+
+p5-runs-values : read (runs (code 1) (code 1)) (1 ∷ 0 ∷ 0 ∷ 0 ∷ 9 ∷ 0 ∷ 0 ∷ 0 ∷ []) 1 ≡ refused 9
+unfolding meaning
+p5-runs-values = refl
+
+-- reading takes the values before the lengths, a lookup the lengths before the values
+p5-values-first : read (runs (code 1) (code 1)) (1 ∷ 0 ∷ 0 ∷ 0 ∷ 1 ∷ 0 ∷ 0 ∷ 0 ∷ 0x80 ∷ 0x80 ∷ 0 ∷ []) 1 ≡ refused 9
+unfolding meaning
+p5-values-first = refl
+
+p5-lengths-first : look (runs (code 1) (code 1)) (1 ∷ 0 ∷ 0 ∷ 0 ∷ 1 ∷ 0 ∷ 0 ∷ 0 ∷ 0x80 ∷ 0x80 ∷ 0 ∷ []) 1 0 ≡ refused 13
+unfolding meaning
+p5-lengths-first = refl
+
+-- a place under no run at all: the lengths' own header is not looked at
+p5-no-run : look (runs (code 1) (reference (code 1))) (0 ∷ 0 ∷ 0 ∷ 0 ∷ 0 ∷ 0 ∷ 0 ∷ 0 ∷ []) 1 0 ≡ refused 13
+unfolding meaning
+p5-no-run = refl
+
+-- differences take all units through the place before any sum: place 0 is too large, and the unit of place 1 is cut short
+p5-sums-last : look (differences (reference (code 1))) (0xff ∷ 0xff ∷ 0xff ∷ 0xff ∷ 1 ∷ 0x80 ∷ []) 2 1 ≡ refused 9
+unfolding meaning
+p5-sums-last = refl
+
+p5-sum-alone : look (differences (reference (code 1))) (0xff ∷ 0xff ∷ 0xff ∷ 0xff ∷ 1 ∷ 0x80 ∷ []) 2 0 ≡ refused 13
+unfolding meaning
+p5-sum-alone = refl
+
+-- below differences all lengths come before the values: the value of run 0 is cut short, the length of run 1 breaks a rule
+p5-run-0 : look (differences (runs (code 1) (code 1))) (2 ∷ 0 ∷ 0 ∷ 0 ∷ 1 ∷ 0 ∷ 0 ∷ 0 ∷ 0x80 ∷ 1 ∷ 0x80 ∷ 0 ∷ []) 4 0 ≡ refused 9
+unfolding meaning
+p5-run-0 = refl
+
+p5-run-1 : look (differences (runs (code 1) (code 1))) (2 ∷ 0 ∷ 0 ∷ 0 ∷ 1 ∷ 0 ∷ 0 ∷ 0 ∷ 0x80 ∷ 1 ∷ 0x80 ∷ 0 ∷ []) 4 1 ≡ refused 13
+unfolding meaning
+p5-run-1 = refl
+
+-- the kind is asked last: a list that falls, and then is cut short
+p5-fall-last : check (1 ∷ 1 ∷ entry 1 3 2 ++ (5 ∷ 4 ∷ [])) 24 ≡ blamed 9 0
+unfolding meaning
+p5-fall-last = refl
+
+-- a reference's own rules come after the whole inner body
+p5-inner-first : read (reference (reference (code 1))) (1 ∷ 0 ∷ 0 ∷ 0 ∷ []) 0 ≡ refused 9
+unfolding meaning
+p5-inner-first = refl

@@ -1,7 +1,9 @@
 -- What is proved of every code. Assumes nothing.
 use Prim.Native.Nat.{ℕ, _+_, _*_, _≤_, _<_}
 use mathlib.Core.Path.{_≡_}
-use mathlib.Core.List.{List, []}
+use mathlib.Core.Bool.{Bool, true, false}
+use mathlib.Core.List.{List, [], _∷_, _++_}
+use mathlib.Core.Logic.{inl, inr}
 use lib.ListN.{length, getD}
 use Rattle.meaning.specs.Answer.{Answer, given}
 use Rattle.meaning.specs.Limits.{numberLimit, mostNumbers}
@@ -9,6 +11,8 @@ use Rattle.meaning.specs.Places.{Below, Spare}
 use Rattle.meaning.specs.Codes.{Code, Way, byUnits, directly, lookBy, readCode, lookCode}
 use Rattle.meaning.specs.declared.Position.{Position}
 use Rattle.meaning.proofs.Answers.{Faulty, bind-given}
+use Rattle.meaning.proofs.Lasting.{Lasts, lasts-faulty, Overrun, units-overrun}
+use Rattle.meaning.proofs.Lasting.Lasts.{cut, wrong, same}
 use Rattle.meaning.proofs.Units.{Good, look-read}
 
 -- what reads as a list is what is written from it, byte for byte; the list has n numbers, each below 2^32
@@ -31,9 +35,14 @@ Looked c (directly look) = Direct c look
 pub record Lawful (c : Code) : Type 0 where
   -- a unit holds a number at least, and none beyond the list
   pub good : (body : List ℕ) → Below 256 body → Good (c .unit body)
-  -- whatever a unit or its start is refused by is a fault
-  pub begins : (body : List ℕ) (n : ℕ) → Faulty (c .start body n)
-  pub faulty : (body : List ℕ) (left : ℕ) (p : Position) → Faulty (c .unit body left p)
+  -- whether a unit that ends at a position lies within the body
+  pub inside : List ℕ → Position → Bool
+  -- a start or a unit that is not cut short is the same whatever follows the body, and lies within it if the unit before it does
+  pub starts : (body more : List ℕ) (n : ℕ) → Lasts (λ p. inside body p ≡ true) (c .start body n) (c .start (body ++ more) n)
+  pub units : (body more : List ℕ) (left : ℕ) (p : Position)
+      → Lasts (λ u. inside body p ≡ true → inside body (u .0) ≡ true) (c .unit body left p) (c .unit (body ++ more) left p)
+  -- and where bytes follow, they are left over
+  pub over : (body : List ℕ) (b : ℕ) (more : List ℕ) (p : Position) → inside body p ≡ true → c .done (body ++ (b ∷ more)) p ≡ false
   -- any unit may be the first
   pub fresh : Spare (c .joins) [] 0
   -- (a) reading what was written gives the list, where that is no longer than a column
@@ -61,3 +70,25 @@ module _ (c : Code) (body : List ℕ) (n : ℕ) (xs : List ℕ) (b : Below 256 b
   pub look-code : Lawful c → lookCode c body n place ≡ given (getD xs place 0)
   unfolding lookCode
   look-code l = look-by (c .way) (l .looked)
+
+-- ---- bytes added behind a body
+module _ (c : Code) (l : Lawful c) (body : List ℕ) where
+  pub start-faulty : (n : ℕ) → Faulty (c .start body n)
+  start-faulty n = lasts-faulty (l .starts body [] n)
+
+  pub unit-faulty : (left : ℕ) (p : Position) → Faulty (c .unit body left p)
+  unit-faulty left p = lasts-faulty (l .units body [] left p)
+
+  -- a reading that is not cut short is broken by them
+  pub code-overrun : (b : ℕ) (more : List ℕ) (n : ℕ) → Overrun (readCode c body n) (readCode c (body ++ (b ∷ more)) n)
+  unfolding readCode
+  code-overrun b more n = by-start (l .starts body (b ∷ more) n)
+    where
+      by-start : Lasts (λ p. l .inside body p ≡ true) (c .start body n) (c .start (body ++ (b ∷ more)) n)
+          → Overrun (readCode c body n) (readCode c (body ++ (b ∷ more)) n)
+      by-start (cut e) = inl (rw e)
+      by-start (wrong e g) = inr (rw g)
+      by-start (same p e g s) =
+          rw (e, g)
+          (units-overrun (c .unit body) (c .unit (body ++ (b ∷ more))) (c .joins) (c .done body) (c .done (body ++ (b ∷ more)))
+          (λ q. l .inside body q ≡ true) (l .units body (b ∷ more)) (l .over body b more) n [] p s)

@@ -6,6 +6,7 @@ pub mod Stores
 pub mod Ranks
 pub mod Units
 pub mod Loops
+pub mod Lasting
 pub mod Codes
 pub mod Stretches
 pub mod Taking

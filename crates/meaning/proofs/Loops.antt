@@ -8,7 +8,7 @@ use native.Mathlib.Omega.{arith}
 use lib.ListN.{length, getD, take, length-append}
 use lib.Seq.{sets, length-sets}
 use Rattle.meaning.specs.Answer.{Answer, given, refused, need, amount}
-use Rattle.meaning.specs.Limits.{fault}
+use Rattle.meaning.specs.Limits.{broken}
 use Rattle.meaning.specs.Places.{part, Got}
 use Rattle.meaning.specs.Units.{readUnits, lookUnits}
 use Rattle.meaning.specs.declared.Reading.the-variants.{Whole, Refused}
@@ -25,7 +25,7 @@ join-join : (xs ys : List ℕ) (m : Answer (List ℕ)) → join xs (join ys m) �
 join-join xs ys (given zs) = ap (λ (l : List ℕ). given l) (sym (append-assoc xs ys zs))
 join-join xs ys (refused e) = refl
 
-join-end : (b : Bool) (xs : List ℕ) → join xs (need b fault (given [])) ≡ need b fault (given xs)
+join-end : (b : Bool) (xs : List ℕ) → join xs (need b broken (given [])) ≡ need b broken (given xs)
 join-end true xs = ap (λ (l : List ℕ). given l) (append-nil xs)
 join-end false xs = refl
 
@@ -75,10 +75,10 @@ module _ {P : Type 0} (unit : ℕ → P → Answer (P × List ℕ)) (joins : Lis
     pub read-refuse : (z : ℕ) → i < n → unit (n - i) p ≡ refused z → readUnits unit joins done n [] p₀ ≡ refused z
     read-refuse z h e = so .rest ∙ rw (read-refused unit joins done good (n - i) before p z (omega arith) e)
 
-    pub read-unjoined : (u : P × List ℕ) → i < n → unit (n - i) p ≡ given u → joins before (u .1) ≡ false → readUnits unit joins done n [] p₀ ≡ refused fault
+    pub read-unjoined : (u : P × List ℕ) → i < n → unit (n - i) p ≡ given u → joins before (u .1) ≡ false → readUnits unit joins done n [] p₀ ≡ refused broken
     read-unjoined u h e j = so .rest ∙ rw (read-apart unit joins done good (n - i) before p u (omega arith) e j)
 
-    pub read-end : n ≤ i → readUnits unit joins done n [] p₀ ≡ need (done p) fault (given (so .sofar))
+    pub read-end : n ≤ i → readUnits unit joins done n [] p₀ ≡ need (done p) broken (given (so .sofar))
     read-end h =
         let m : n - i ≡ 0 = omega arith in
         so .rest ∙ rw (m, read-none unit joins done good before p) (join-end (done p) (so .sofar))

@@ -8,7 +8,7 @@ use lib.ListN.{length, getD, length-append, List·getD-append}
 use lib.Seq.{getD-append-add}
 use borrow.Author.Tests.{lt-ltb, le-ltb}
 use Rattle.meaning.specs.Answer.{Answer, given, refused, bind, need}
-use Rattle.meaning.specs.Limits.{fault}
+use Rattle.meaning.specs.Limits.{broken}
 use Rattle.meaning.specs.Units.{readFrom, readUnits, lookFrom, lookUnits}
 use Rattle.meaning.proofs.Answers.{bind-given, bind-cong, need-given, not-given}
 use Rattle.meaning.proofs.Tests.{by-order}
@@ -39,12 +39,12 @@ module _ {P : Type 0} (unit : ℕ → P → Answer (P × List ℕ)) (joins : Lis
   unfolding readFrom
   split f n before p xs e =
       let (u, eu, e₁) = bind-given (unit (suc n) p) _ xs e in
-      let (j, e₂) = need-given (joins before (u .1)) fault _ xs e₁ in
+      let (j, e₂) = need-given (joins before (u .1)) broken _ xs e₁ in
       let (ys, er, e₃) = bind-given (readFrom unit joins done f (suc n - length (u .1)) (u .1) (u .0)) _ xs e₂ in
       record { u = u; rest = ys; eu = eu; joined = j; er = er; is = cc }
 
-  none : (p : P) (xs : List ℕ) → need (done p) fault (given []) ≡ given xs → (done p ≡ true) × ([] ≡ xs)
-  none p xs e = let (d, g) = need-given (done p) fault (given []) xs e in (d, cc)
+  none : (p : P) (xs : List ℕ) → need (done p) broken (given []) ≡ given xs → (done p ≡ true) × ([] ≡ xs)
+  none p xs e = let (d, g) = need-given (done p) broken (given []) xs e in (d, cc)
 
   module _ (good : Good unit) where
     -- any count that is large enough reads the same
@@ -60,11 +60,11 @@ module _ {P : Type 0} (unit : ℕ → P → Answer (P × List ℕ)) (joins : Lis
     read-enough (suc f) (suc g) (suc n) before p hf hg =
         bind-cong (unit (suc n) p) _ _
         (λ u e. let k = good .some (suc n) p u (omega arith) e in
-        ap (λ (r : Answer (List ℕ)). need (joins before (u .1)) fault (join (u .1) r))
+        ap (λ (r : Answer (List ℕ)). need (joins before (u .1)) broken (join (u .1) r))
         (read-enough f g (suc n - length (u .1)) (u .1) (u .0) (omega arith) (omega arith)))
 
     -- ---- the equations of `readUnits`: nothing after them looks at the count
-    pub read-none : (before : List ℕ) (p : P) → readUnits unit joins done 0 before p ≡ need (done p) fault (given [])
+    pub read-none : (before : List ℕ) (p : P) → readUnits unit joins done 0 before p ≡ need (done p) broken (given [])
     unfolding readUnits readFrom
     read-none before p = refl
 
@@ -74,7 +74,7 @@ module _ {P : Type 0} (unit : ℕ → P → Answer (P × List ℕ)) (joins : Lis
     read-refused (suc n) before p e h q = rw q
 
     pub read-apart : (n : ℕ) (before : List ℕ) (p : P) (u : P × List ℕ) → 0 < n → unit n p ≡ given u → joins before (u .1) ≡ false
-        → readUnits unit joins done n before p ≡ refused fault
+        → readUnits unit joins done n before p ≡ refused broken
     unfolding readUnits readFrom
     read-apart zero before p u h q j = absurd (omega arith)
     read-apart (suc n) before p u h q j = rw (q, j)
@@ -141,7 +141,7 @@ module _ {P : Type 0} (unit : ℕ → P → Answer (P × List ℕ)) (good : Good
 
 -- ---- where reading gives a list, looking up gives its numbers
 module _ {P : Type 0} (unit : ℕ → P → Answer (P × List ℕ)) (joins : List ℕ → List ℕ → Bool) (done : P → Bool) where
-  ended : (p : P) (xs : List ℕ) (place : ℕ) → need (done p) fault (given []) ≡ given xs → place < length xs → ⊥
+  ended : (p : P) (xs : List ℕ) (place : ℕ) → need (done p) broken (given []) ≡ given xs → place < length xs → ⊥
   ended p xs place e h = let z = ap length (none unit joins done p xs e .1) in omega arith
 
   -- one unit that holds the place, or not
@@ -206,7 +206,7 @@ module _ {P : Type 0} (unit : ℕ → P → Answer (P × List ℕ)) (joins : Lis
   unfolding readUnits
   read-written before p xs h = written (length xs) before p xs h (omega arith)
 
-  none-left : (before : List ℕ) (p : P) (xs : List ℕ) → need (done p) fault (given []) ≡ given xs → At before p xs
+  none-left : (before : List ℕ) (p : P) (xs : List ℕ) → need (done p) broken (given []) ≡ given xs → At before p xs
   none-left before p xs e = let (d, z) = none unit joins done p xs e in subst (At before p) z (whole .ended before p d)
 
   holds : (f n : ℕ) (before : List ℕ) (p : P) (xs : List ℕ) → readFrom unit joins done f n before p ≡ given xs → At before p xs

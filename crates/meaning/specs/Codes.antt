@@ -6,7 +6,7 @@ use mathlib.Core.List.{List, []}
 use lib.Dec.{leb, eqb}
 use lib.ListN.{length}
 use Rattle.meaning.specs.Answer.{Answer, given, bind, need}
-use Rattle.meaning.specs.Limits.{fault}
+use Rattle.meaning.specs.Limits.{cutShort}
 use Rattle.meaning.specs.Lists.{joined}
 use Rattle.meaning.specs.Positions.{atByte, atControl, atBit}
 use Rattle.meaning.specs.Units.{readUnits, lookUnits}
@@ -76,7 +76,7 @@ codeStream =
     record {
       write = writeStream;
       worst = worstGroups;
-      start = λ body n. need (leb (groupCount n) (length body)) fault (given (atControl 0 (groupCount n)));
+      start = λ body n. need (leb (groupCount n) (length body)) cutShort (given (atControl 0 (groupCount n)));
       unit = unitStream;
       joins = always;
       done = λ body p. eqb (p .tail .byte) (length body);
@@ -114,7 +114,7 @@ codeDirect =
     record {
       write = writeDirect;
       worst = worstDirect;
-      start = λ body n. need (partsFit body) fault (given (atBit 0));
+      start = λ body n. need (partsFit body) cutShort (given (atBit 0));
       unit = unitDirect;
       joins = always;
       done = doneDirect;

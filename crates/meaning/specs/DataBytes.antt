@@ -5,7 +5,7 @@ use mathlib.Core.List.{List, [], _∷_}
 use lib.Dec.{ltb, eqb}
 use lib.ListN.{take, drop}
 use Rattle.meaning.specs.Answer.{Answer, given, bind, need}
-use Rattle.meaning.specs.Limits.{fault}
+use Rattle.meaning.specs.Limits.{broken}
 use Rattle.meaning.specs.Lists.{joined}
 use Rattle.meaning.specs.Bytes.{bytesOf, numberOf}
 
@@ -24,5 +24,5 @@ dataBytes xs = joined fewest xs
 unfoldable pub dataIn : List ℕ → List ℕ → Answer (List ℕ)
 dataIn [] bytes = given []
 dataIn (l ∷ ls) bytes =
-    need (eqb (byteLength (numberOf (take l bytes))) l) fault
+    need (eqb (byteLength (numberOf (take l bytes))) l) broken
     (bind (dataIn ls (drop l bytes)) (λ xs. given (numberOf (take l bytes) ∷ xs)))

@@ -10,7 +10,7 @@ use Rattle.meaning.specs.Answer.{Answer, given, bind, need}
 use Rattle.meaning.specs.Bits.{lowBits, packLow, zerosFirst}
 use Rattle.meaning.specs.Bytes.{bytesOf, numberOf, word, wordAt}
 use Rattle.meaning.specs.DataBytes.{byteLength, dataBytes}
-use Rattle.meaning.specs.Limits.{fault}
+use Rattle.meaning.specs.Limits.{cutShort, broken}
 use Rattle.meaning.specs.Lists.{all, joined}
 use Rattle.meaning.specs.Positions.{atBit}
 use Rattle.meaning.specs.Rank.{onesBefore, oneAt}
@@ -67,15 +67,15 @@ sumAt body s = numberOf (take 2 (drop (sumsAt (wordAt body 0) + 2 * s) body))
 unfoldable pub numberIn : List ℕ → ℕ → ℕ → Answer ℕ
 numberIn body i l =
     let x = numberOf (take l (drop (dataAt (wordAt body 0) + i) body)) in
-    need (leb l 4) fault (need (eqb (byteLength x) l) fault (given x))
+    need (leb l 4) broken (need (eqb (byteLength x) l) broken (given x))
 
 -- the number whose first byte is data byte p: a bit from there on ends it
 unfoldable pub unitDirect : List ℕ → ℕ → Position → Answer (Position × List ℕ)
 unitDirect body left p =
     let i = p .bit .index in
     let l = suc (zerosFirst (drop i (flags body))) in
-    need (partsFit body) fault
-    (need (leb (i + l) (wordAt body 0)) fault
+    need (partsFit body) cutShort
+    (need (leb (i + l) (wordAt body 0)) broken
     (bind (numberIn body i l) (λ x. given (atBit (i + l), x ∷ []))))
 
 -- the first k sums are true
@@ -127,5 +127,5 @@ stretchBits body s = take 512 (drop (512 * s) (flags body))
 unfoldable pub lookDirect : List ℕ → ℕ → Answer ℕ
 lookDirect body place =
     let s = stretchOf body place in
-    need (partsFit body) fault
-    (bind (oneAt fault (place - endedBefore body s) (stretchBits body s)) (λ i. endingAt body (512 * s + i)))
+    need (partsFit body) cutShort
+    (bind (oneAt broken (place - endedBefore body s) (stretchBits body s)) (λ i. endingAt body (512 * s + i)))

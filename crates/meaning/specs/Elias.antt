@@ -6,7 +6,7 @@ use mathlib.Core.List.{List, [], _∷_, _++_}
 use lib.Dec.{leb, ltb, eqb}
 use lib.ListN.{length, take, drop, replicate}
 use Rattle.meaning.specs.Answer.{Answer, given, bind, need}
-use Rattle.meaning.specs.Limits.{fault, numberLimit}
+use Rattle.meaning.specs.Limits.{cutShort, broken, numberLimit}
 use Rattle.meaning.specs.Lists.{all, joined}
 use Rattle.meaning.specs.Bits.{bitsHigh, bitsOf, numberHigh, pack, zerosFirst, bitLength}
 use Rattle.meaning.specs.Positions.{atBit}
@@ -32,9 +32,9 @@ valueBehind bits = numberHigh 0 (take (zerosFirst bits + 1) (drop (zerosFirst bi
 -- v, and how many bits the codeword takes; with at most so many zeros, and v at most `most`
 unfoldable pub gammaIn : ℕ → ℕ → List ℕ → Answer (ℕ × ℕ)
 gammaIn zeros most bits =
-    need (leb (zerosFirst bits) zeros) fault
-    (need (leb (2 * zerosFirst bits + 1) (length bits)) fault
-    (need (leb (valueBehind bits) most) fault
+    need (leb (zerosFirst bits) zeros) broken
+    (need (leb (2 * zerosFirst bits + 1) (length bits)) cutShort
+    (need (leb (valueBehind bits) most) broken
     (given (valueBehind bits, 2 * zerosFirst bits + 1))))
 
 -- the largest v, 2^32, has 32 zeros in gamma; its length, 33, has 5
@@ -44,8 +44,8 @@ gammaWord bits = gammaIn 32 numberLimit bits
 -- the rest of v after its leading one, in n bits
 unfoldable pub restIn : ℕ → List ℕ → Answer ℕ
 restIn n bits =
-    need (leb n (length bits)) fault
-    (need (leb (numberHigh 1 (take n bits)) numberLimit) fault (given (numberHigh 1 (take n bits))))
+    need (leb n (length bits)) cutShort
+    (need (leb (numberHigh 1 (take n bits)) numberLimit) broken (given (numberHigh 1 (take n bits))))
 
 unfoldable pub deltaWord : List ℕ → Answer (ℕ × ℕ)
 deltaWord bits =

@@ -8,7 +8,7 @@ use lib.Dec.{leb, eqb}
 use lib.ListN.{length, getD, take, drop, replicate}
 use Rattle.meaning.specs.Answer.{Answer, given, bind, need}
 use Rattle.meaning.specs.Bits.{bitsLow, numberLow}
-use Rattle.meaning.specs.Limits.{fault}
+use Rattle.meaning.specs.Limits.{cutShort, broken}
 use Rattle.meaning.specs.Lists.{all, sum, joined}
 use Rattle.meaning.specs.DataBytes.{byteLength, dataBytes, dataIn}
 use Rattle.meaning.specs.Positions.{atByte}
@@ -53,14 +53,14 @@ blockLengths c = lengthsBy 0 (bitsLow 8 c)
 -- the numbers of a block by its control byte and its data, where `left` are still to come
 unfoldable pub blockIn : ℕ → List ℕ → List ℕ → Answer (List ℕ)
 blockIn left ls bytes =
-    need (leb 1 (length ls)) fault
-    (need (leb (length ls) left) fault
-    (need (leb (8 - sum ls) 3 || eqb (length ls) left) fault
-    (need (all (eqb 0) (drop (sum ls) bytes)) fault (dataIn ls bytes))))
+    need (leb 1 (length ls)) broken
+    (need (leb (length ls) left) broken
+    (need (leb (8 - sum ls) 3 || eqb (length ls) left) broken
+    (need (all (eqb 0) (drop (sum ls) bytes)) broken (dataIn ls bytes))))
 
 unfoldable pub unitG8IU : List ℕ → ℕ → Position → Answer (Position × List ℕ)
 unitG8IU body left p =
-    need (leb (p .head .byte + 9) (length body)) fault
+    need (leb (p .head .byte + 9) (length body)) cutShort
     (bind (blockIn left (blockLengths (getD body (p .head .byte) 0)) (take 8 (drop (p .head .byte + 1) body))) (λ xs.
     given (atByte (p .head .byte + 9), xs)))
 

@@ -9,7 +9,7 @@ use lib.Dec.{leb, eqb}
 use lib.ListN.{length, take, drop}
 use Rattle.meaning.specs.Answer.{Answer, given, bind, need}
 use Rattle.meaning.specs.Bytes.{numberOf}
-use Rattle.meaning.specs.Limits.{fault}
+use Rattle.meaning.specs.Limits.{cutShort, broken}
 use Rattle.meaning.specs.Lists.{sum, joined}
 use Rattle.meaning.specs.DataBytes.{byteLength, dataBytes, dataIn}
 use Rattle.meaning.specs.Positions.{atByte, atControl}
@@ -69,8 +69,8 @@ writeStream xs = controls fours xs ++ dataBytes xs
 -- the k numbers of a group, by its fields c and the bytes from its data on: the data is there, unused fields are 0, lengths are the fewest
 unfoldable pub groupIn : Grouping → ℕ → ℕ → List ℕ → Answer (List ℕ)
 groupIn g k c bytes =
-    need (leb (sum (lengthsIn g k c)) (length bytes)) fault
-    (need (eqb (c / 4 ^ k) 0) fault (dataIn (lengthsIn g k c) bytes))
+    need (leb (sum (lengthsIn g k c)) (length bytes)) cutShort
+    (need (eqb (c / 4 ^ k) 0) broken (dataIn (lengthsIn g k c) bytes))
 
 -- the same where the data begins at an offset of a body: where it ends, and the numbers
 unfoldable pub groupFrom : Grouping → List ℕ → ℕ → ℕ → ℕ → Answer (ℕ × List ℕ)
@@ -79,7 +79,7 @@ groupFrom g body k c from = bind (groupIn g k c (drop from body)) (λ xs. given 
 -- the same where the control bytes stand at another offset: they are there, and least significant first they are the fields
 unfoldable pub groupAt : Grouping → List ℕ → ℕ → ℕ → ℕ → Answer (ℕ × List ℕ)
 groupAt g body k at from =
-    need (leb (groupCount k) (length (drop at body))) fault (groupFrom g body k (numberOf (take (groupCount k) (drop at body))) from)
+    need (leb (groupCount k) (length (drop at body))) cutShort (groupFrom g body k (numberOf (take (groupCount k) (drop at body))) from)
 
 -- a unit is a full group, or what is left: its control bytes, and its data behind them
 unfoldable pub unitGroups : Grouping → List ℕ → ℕ → Position → Answer (Position × List ℕ)

@@ -68,9 +68,9 @@ noRoom = 7
 abbrev pub shortWork : ℕ
 shortWork = 8
 
--- fault in a body
-abbrev pub fault : ℕ
-fault = 9
+-- a body that ends before a unit or header of it does
+abbrev pub cutShort : ℕ
+cutShort = 9
 
 -- writing: a list is not of its kind
 abbrev pub fallen : ℕ
@@ -83,3 +83,7 @@ badOrders = 11
 -- board rules broken
 abbrev pub badBoard : ℕ
 badBoard = 12
+
+-- any other fault of a body
+abbrev pub broken : ℕ
+broken = 13

@@ -6,7 +6,7 @@ use mathlib.Core.List.{List, [], _∷_, _++_, map}
 use lib.Dec.{leb, eqb}
 use lib.ListN.{length, getD, take, drop}
 use Rattle.meaning.specs.Answer.{Answer, given, bind, need, Verdict, _then_, ask, inTurn}
-use Rattle.meaning.specs.Limits.{mostColumns, mostNumbers, mostBytes, planBytes, rising, lastEdition, noSheet, badTable, fault}
+use Rattle.meaning.specs.Limits.{mostColumns, mostNumbers, mostBytes, planBytes, rising, lastEdition, noSheet, badTable, broken}
 use Rattle.meaning.specs.Lists.{all, sum, joined, largest, rises, strict}
 use Rattle.meaning.specs.Bytes.{word, wordAt}
 use Rattle.meaning.specs.Plan.{planOf, judgePlan, worstPlan}
@@ -137,7 +137,7 @@ sound sheet =
 
 -- reading a column applies all of its plan, and last asks that the list is of the declared kind, by the sheet's edition
 unfoldable pub readColumn : Column → Answer (List ℕ)
-readColumn c = bind (read (planOf (c .plan)) (c .body) (c .count)) (λ xs. need (ofKind (c .edition) (c .kind) xs) fault (given xs))
+readColumn c = bind (read (planOf (c .plan)) (c .body) (c .count)) (λ xs. need (ofKind (c .edition) (c .kind) xs) broken (given xs))
 
 -- what the check asks of a column: that it can be read
 unfoldable pub checkColumn : Column → Answer (List ℕ)

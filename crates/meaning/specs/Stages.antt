@@ -1,11 +1,11 @@
 -- The three stages, and bodies by a plan: written, strictly read, looked up.
 use Prim.Native.Nat.{ℕ, zero, suc, _+_, _-_, min}
-use mathlib.Core.Bool.{Bool, _&&_, cond}
+use mathlib.Core.Bool.{Bool, cond}
 use mathlib.Core.List.{List, [], _∷_, _++_, map}
 use lib.Dec.{leb, ltb, eqb}
 use lib.ListN.{length, take, drop, replicate}
 use Rattle.meaning.specs.Answer.{Answer, given, refused, bind, need}
-use Rattle.meaning.specs.Limits.{numberLimit, fault}
+use Rattle.meaning.specs.Limits.{numberLimit, cutShort, broken}
 use Rattle.meaning.specs.Lists.{all, sum, differ}
 use Rattle.meaning.specs.Bytes.{word, wordAt}
 use Rattle.meaning.specs.Codes.{codeOf, readCode, lookCode}
@@ -63,27 +63,30 @@ write (runs p q) xs =
     word (length (runValues xs)) ++ (word (length (write p (runValues xs))) ++ (write p (runValues xs) ++ write q (runLengths xs)))
 
 -- ---- the strict reading of n numbers
--- a sum above 2^32 - 1 is a fault
+-- a sum above 2^32 - 1 breaks a rule
 unfoldable pub small : List ℕ → Bool
 small xs = all (λ x. ltb x numberLimit) xs
 
 -- the reference m is the least number
 unfoldable pub raised : ℕ → List ℕ → Answer (List ℕ)
 raised m xs =
-    need (small (map (λ x. m + x) xs)) fault
-    (need (eqb (least (map (λ x. m + x) xs)) m) fault (given (map (λ x. m + x) xs)))
+    need (small (map (λ x. m + x) xs)) broken
+    (need (eqb (least (map (λ x. m + x) xs)) m) broken (given (map (λ x. m + x) xs)))
 
 unfoldable pub summed : List ℕ → Answer (List ℕ)
-summed xs = need (small (sumsFrom 0 xs)) fault (given (sumsFrom 0 xs))
+summed xs = need (small (sumsFrom 0 xs)) broken (given (sumsFrom 0 xs))
 
 -- lengths at least 1, neighbours differ, lengths sum to the count
 unfoldable pub unrolled : ℕ → List ℕ → List ℕ → Answer (List ℕ)
 unrolled n vs ls =
-    need (all (leb 1) ls) fault (need (eqb (sum ls) n) fault (need (differ vs) fault (given (unroll vs ls))))
+    need (all (leb 1) ls) broken (need (eqb (sum ls) n) broken (need (differ vs) broken (given (unroll vs ls))))
 
--- a run stage's header: run count (4 bytes), length of the values body (4 bytes). It fits, its count is at most n and the values body fits
-unfoldable pub runHeader : ℕ → List ℕ → Bool
-runHeader n body = leb 8 (length body) && (leb (wordAt body 0) n && leb (wordAt body 4) (length body - 8))
+-- a run stage's header: run count (4 bytes), length of the values body (4 bytes). It fits, then its count is at most n, then the values body fits
+unfoldable pub runHeader : ℕ → List ℕ → Answer (Unit {0})
+runHeader n body =
+    need (leb 8 (length body)) cutShort
+    (need (leb (wordAt body 0) n) broken
+    (need (leb (wordAt body 4) (length body - 8)) cutShort (given tt)))
 
 abbrev pub valuesBody : List ℕ → List ℕ
 valuesBody body = take (wordAt body 4) (drop 8 body)
@@ -92,40 +95,58 @@ abbrev pub lengthsBody : List ℕ → List ℕ
 lengthsBody body = drop (8 + wordAt body 4) body
 
 unfoldable pub read : Plan → List ℕ → ℕ → Answer (List ℕ)
-read bad body n = refused fault
+read bad body n = refused broken
 read (code c) body n = readCode (codeOf c) body n
-read (reference p) body n = need (leb 4 (length body)) fault (bind (read p (drop 4 body) n) (raised (wordAt body 0)))
+read (reference p) body n = need (leb 4 (length body)) cutShort (bind (read p (drop 4 body) n) (raised (wordAt body 0)))
 read (differences p) body n = bind (read p body n) summed
 read (runs p q) body n =
-    need (runHeader n body) fault
-    (bind (read p (valuesBody body) (wordAt body 0)) (λ vs.
+    bind (runHeader n body) (λ h.
+    bind (read p (valuesBody body) (wordAt body 0)) (λ vs.
     bind (read q (lengthsBody body) (wordAt body 0)) (unrolled n vs)))
 
 -- ---- the number at a place of n
 unfoldable pub within : ℕ → Answer ℕ
-within x = need (ltb x numberLimit) fault (given x)
+within x = need (ltb x numberLimit) broken (given x)
 
--- the sum of the numbers at the first k places
-unfoldable pub total : (ℕ → Answer ℕ) → ℕ → Answer ℕ
-total at zero = given 0
-total at (suc k) = bind (total at k) (λ s. bind (at k) (λ x. given (s + x)))
+-- the numbers at the first k places, each in turn
+unfoldable pub numbersTo : (ℕ → Answer ℕ) → ℕ → Answer (List ℕ)
+numbersTo at zero = given []
+numbersTo at (suc k) = bind (numbersTo at k) (λ xs. bind (at k) (λ x. given (xs ++ (x ∷ []))))
 
 -- the run that holds a place of n: `left` runs may still come, the next is run j, and `before` numbers stand before it. A run ends where its length
 -- takes it; no length is zero, and no run ends above n
 unfoldable pub seek : (ℕ → Answer ℕ) → ℕ → ℕ → ℕ → ℕ → ℕ → Answer ℕ
-seek lengthAt n place zero j before = refused fault
+seek lengthAt n place zero j before = refused broken
 seek lengthAt n place (suc left) j before =
     bind (lengthAt j) (λ long.
-    need (leb 1 long) fault
-    (need (leb (before + long) n) fault
+    need (leb 1 long) broken
+    (need (leb (before + long) n) broken
     (cond (ltb place (before + long)) (given j) (seek lengthAt n place left (j + 1) (before + long)))))
 
-unfoldable pub look : Plan → List ℕ → ℕ → ℕ → Answer ℕ
-look bad body n place = refused fault
-look (code c) body n place = lookCode (codeOf c) body n place
-look (reference p) body n place = need (leb 4 (length body)) fault (bind (look p (drop 4 body) n place) (λ x. within (wordAt body 0 + x)))
-look (differences p) body n place = bind (total (look p body n) (place + 1)) within
-look (runs p q) body n place =
-    need (runHeader n body) fault
-    (bind (seek (look q (lengthsBody body) (wordAt body 0)) n place (wordAt body 0) 0 0)
-    (look p (valuesBody body) (wordAt body 0)))
+unfoldable mutual
+  pub look : Plan → List ℕ → ℕ → ℕ → Answer ℕ
+  look bad body n place = refused broken
+  look (code c) body n place = lookCode (codeOf c) body n place
+  look (reference p) body n place = need (leb 4 (length body)) cutShort (bind (look p (drop 4 body) n place) (λ x. within (wordAt body 0 + x)))
+  look (differences p) body n place = bind (numbersThrough p body n place) (λ xs. within (sum xs))
+  look (runs p q) body n place =
+      bind (runHeader n body) (λ h.
+      bind (seek (λ i. look q (lengthsBody body) (wordAt body 0) i) n place (wordAt body 0) 0 0) (λ j.
+      look p (valuesBody body) (wordAt body 0) j))
+
+  -- the numbers at the places through this one, taken once: units, headers and lengths in their order, and no sum is tested before all are taken (one
+  -- that is too large makes the sum of all too large). No plan passes with differences below differences: there each place is by itself
+  pub numbersThrough : Plan → List ℕ → ℕ → ℕ → Answer (List ℕ)
+  numbersThrough bad body n place = refused broken
+  numbersThrough (code c) body n place = numbersTo (lookCode (codeOf c) body n) (place + 1)
+  numbersThrough (reference p) body n place =
+      need (leb 4 (length body)) cutShort
+      (bind (numbersThrough p (drop 4 body) n place) (λ xs. given (map (λ x. wordAt body 0 + x) xs)))
+  numbersThrough (differences p) body n place = numbersTo (λ i. bind (numbersThrough p body n i) (λ xs. within (sum xs))) (place + 1)
+  -- the lengths through the run that holds the place, then the values through it
+  numbersThrough (runs p q) body n place =
+      bind (runHeader n body) (λ h.
+      bind (seek (λ i. look q (lengthsBody body) (wordAt body 0) i) n place (wordAt body 0) 0 0) (λ j.
+      bind (numbersTo (λ i. look q (lengthsBody body) (wordAt body 0) i) (j + 1)) (λ ls.
+      bind (numbersThrough p (valuesBody body) (wordAt body 0) j) (λ vs.
+      given (take (place + 1) (unroll vs ls))))))

@@ -8,18 +8,18 @@ use mathlib.Core.List.{List, [], _++_}
 use lib.Dec.{ltb}
 use lib.ListN.{length, getD}
 use Rattle.meaning.specs.Answer.{Answer, given, refused, bind, need}
-use Rattle.meaning.specs.Limits.{fault}
+use Rattle.meaning.specs.Limits.{broken}
 
 -- `joins before numbers`: a unit of these numbers may follow one of those; `done p`: nothing is left over at p
 module _ {P : Type 0} (unit : ℕ → P → Answer (P × List ℕ)) (joins : List ℕ → List ℕ → Bool) (done : P → Bool) where
   unfoldable pub readFrom : ℕ → ℕ → List ℕ → P → Answer (List ℕ)
-  readFrom zero zero before p = need (done p) fault (given [])
+  readFrom zero zero before p = need (done p) broken (given [])
   -- not reached: numbers are left and no unit may come, but each unit holds a number
-  readFrom zero (suc n) before p = refused fault
-  readFrom (suc units) zero before p = need (done p) fault (given [])
+  readFrom zero (suc n) before p = refused broken
+  readFrom (suc units) zero before p = need (done p) broken (given [])
   readFrom (suc units) (suc n) before p =
       bind (unit (suc n) p) (λ u.
-      need (joins before (u .1)) fault
+      need (joins before (u .1)) broken
       (bind (readFrom units (suc n - length (u .1)) (u .1) (u .0)) (λ xs. given (u .1 ++ xs))))
 
   -- the strict reading of n numbers from p on, after a unit of the numbers `before`: every unit, and then nothing left over
@@ -29,7 +29,7 @@ module _ {P : Type 0} (unit : ℕ → P → Answer (P × List ℕ)) (joins : Lis
 module _ {P : Type 0} (unit : ℕ → P → Answer (P × List ℕ)) where
   unfoldable pub lookFrom : ℕ → ℕ → ℕ → P → Answer ℕ
   -- not reached where the place is below the count
-  lookFrom zero left place p = refused fault
+  lookFrom zero left place p = refused broken
   lookFrom (suc units) left place p =
       bind (unit left p) (λ u.
       cond (ltb place (length (u .1))) (given (getD (u .1) place 0))

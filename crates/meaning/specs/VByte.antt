@@ -6,7 +6,7 @@ use mathlib.Core.List.{List, [], _∷_}
 use lib.Dec.{ltb, leb, eqb}
 use lib.ListN.{drop}
 use Rattle.meaning.specs.Answer.{Answer, given, refused, bind, need}
-use Rattle.meaning.specs.Limits.{fault}
+use Rattle.meaning.specs.Limits.{cutShort, broken}
 use Rattle.meaning.specs.Positions.{atByte}
 use Rattle.meaning.specs.declared.Position.{Position}
 
@@ -20,14 +20,14 @@ vbyte x = sevens 4 x
 
 -- a byte that is not the first, and at most k more: the number from here on, and how many bytes it takes
 unfoldable pub laterIn : ℕ → List ℕ → Answer (ℕ × ℕ)
-laterIn k [] = refused fault
-laterIn zero (b ∷ bs) = need (leb b 15) fault (need (not (eqb b 0)) fault (given (b, 1)))
+laterIn k [] = refused cutShort
+laterIn zero (b ∷ bs) = need (leb b 15) broken (need (not (eqb b 0)) broken (given (b, 1)))
 laterIn (suc k) (b ∷ bs) =
-    cond (ltb b 128) (need (not (eqb b 0)) fault (given (b, 1)))
+    cond (ltb b 128) (need (not (eqb b 0)) broken (given (b, 1)))
     (bind (laterIn k bs) (λ t. given (b - 128 + 128 * t .0, 1 + t .1)))
 
 unfoldable pub vbyteIn : List ℕ → Answer (ℕ × ℕ)
-vbyteIn [] = refused fault
+vbyteIn [] = refused cutShort
 vbyteIn (b ∷ bs) = cond (ltb b 128) (given (b, 1)) (bind (laterIn 3 bs) (λ t. given (b - 128 + 128 * t .0, 1 + t .1)))
 
 unfoldable pub unitVByte : List ℕ → ℕ → Position → Answer (Position × List ℕ)

@@ -45,13 +45,15 @@ pub const NO_ROOM: u8 = 7;
 
 pub const SHORT_WORK: u8 = 8;
 
-pub const FAULT: u8 = 9;
+pub const CUT_SHORT: u8 = 9;
 
 pub const FALLS: u8 = 10;
 
 pub const BAD_ORDERS: u8 = 11;
 
 pub const BAD_BOARD: u8 = 12;
+
+pub const BROKEN: u8 = 13;
 
 // A place counts numbers.
 pub struct Place {

@@ -4,3 +4,4 @@ pub mod Spreads
 pub mod Looks
 pub mod Plans
 pub mod Lookups
+pub mod Takings

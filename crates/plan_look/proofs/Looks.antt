@@ -8,15 +8,15 @@ use borrow.Author.Tests.{le-leb, lt-leb}
 use Rattle.meaning.specs.Answer.{refused}
 use Rattle.meaning.specs.Bytes.{wordAt}
 use Rattle.meaning.specs.Codes.{codeOf, lookCode}
-use Rattle.meaning.specs.Limits.{fault}
-use Rattle.meaning.specs.Plan.{Plan, bad, code, reference, differences, runs}
+use Rattle.meaning.specs.Limits.{cutShort, broken}
+use Rattle.meaning.specs.Plan.{Plan, bad, code, reference, runs}
 use Rattle.meaning.specs.Stages.{look}
 use Rattle.stages.proofs.Headers.{Headed, Headless}
 use Rattle.stages.proofs.Parts.{to-the-end}
-use Rattle.plan_look.specs.Turns.{raisedAt, summedAt, runsAt}
+use Rattle.plan_look.specs.Turns.{raisedAt, runsAt}
 
 module _ (p : Plan) (body : List ℕ) (n : ℕ) where
-  pub bad-at : p ≡ bad → (i : ℕ) → look p body n i ≡ refused fault
+  pub bad-at : p ≡ bad → (i : ℕ) → look p body n i ≡ refused broken
   unfolding look
   bad-at e i = rw e
 
@@ -24,12 +24,8 @@ module _ (p : Plan) (body : List ℕ) (n : ℕ) where
   unfolding look
   code-at c e i = rw e
 
-  pub differences-at : (q : Plan) → p ≡ differences q → (i : ℕ) → look p body n i ≡ summedAt (look q body n) i
-  unfolding look
-  differences-at q e i = rw e
-
   module _ (q : Plan) (e : p ≡ reference q) where
-    pub reference-short : length body < 4 → (i : ℕ) → look p body n i ≡ refused fault
+    pub reference-short : length body < 4 → (i : ℕ) → look p body n i ≡ refused cutShort
     unfolding look
     reference-short h i = rw (e, lt-leb 4 (length body) h)
 
@@ -42,7 +38,7 @@ module _ (p : Plan) (body : List ℕ) (n : ℕ) where
 module _ (p q : Plan) (body : List ℕ) (n : ℕ) where
   pub runs-refused : {z : ℕ} → Headless n body z → (i : ℕ) → look (runs p q) body n i ≡ refused z
   unfolding look
-  runs-refused h i = let e = h .refusal in rw (h .none, e)
+  runs-refused h i = rw (h .none)
 
   pub runs-at : {k e : ℕ} → Headed n body k e → (i : ℕ)
       → look (runs p q) body n i ≡ runsAt n k (look q (take (length body - e) (drop e body)) k) (look p (take (e - 8) (drop 8 body)) k) i

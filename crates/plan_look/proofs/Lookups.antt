@@ -5,27 +5,32 @@ use mathlib.Core.Bool.{cond}
 use mathlib.Core.List.{List}
 use native.Mathlib.Nat.{zero-add}
 use native.Mathlib.Omega.{arith}
-use lib.Dec.{ltb}
+use lib.Dec.{ltb, eqb}
 use borrow.Author.Tests.{lt-ltb, le-ltb}
 use lib.ListN.{length, getD, take, drop}
-use Rattle.meaning.specs.Answer.{Answer, given, refused, bind}
+use lib.Seq.{take-all}
+use Rattle.meaning.specs.Answer.{Answer, given, refused, bind, number}
 use Rattle.meaning.specs.Bytes.{wordAt}
 use Rattle.meaning.specs.Codes.{codeOf, lookCode}
-use Rattle.meaning.specs.Limits.{fault}
+use Rattle.meaning.specs.Limits.{cutShort, broken}
 use Rattle.meaning.specs.Plan.{Plan, bad, code, reference, differences, runs, planAt, planSize}
-use Rattle.meaning.specs.Stages.{within, total, seek, look}
+use Rattle.meaning.specs.Stages.{within, seek, look, numbersThrough}
 use Rattle.meaning.specs.declared.Place.{Place}
 use Rattle.meaning.proofs.Tests.{by-order}
-use Rattle.codes.specs.Firsts.{Firsts, Looked}
+use Rattle.codes.specs.Firsts.{Firsts, Looked, total}
 use Rattle.codes.specs.declared.First.{First}
 use Rattle.stages.specs.Room.{room, Fits}
 use Rattle.stages.proofs.Headers.{Headed, Headless}
 use Rattle.stages.specs.Seeks.{soughtFrom, Within, Seeks}
 use Rattle.stages.specs.declared.Sought.{Sought}
 use Rattle.stages.specs.declared.Sought.the-variants as sought
+use Rattle.codes.proofs.Numbered.{laws}
+use Rattle.codes.proofs.Totals.{total-stops, total-numbers}
+use Rattle.stages.proofs.Faults.{through-faulty}
+use Rattle.stages.proofs.Through.{through-all, differences-later}
 use Rattle.stages.proofs.Seeks.{seek-below, seek-stops, seek-none}
 use Rattle.plan_look.specs.Turns.{runOf}
-use Rattle.plan_look.proofs.Looks.{bad-at, code-at, reference-short, reference-at, differences-at, runs-refused, runs-at}
+use Rattle.plan_look.proofs.Looks.{bad-at, code-at, reference-short, reference-at, runs-refused, runs-at}
 
 -- what an answer says, by the case that it is
 pub says-so : {T A : Type 0} (says : T → Answer A) {r r′ : T} {a : Answer A} → says r ≡ a → r ≡ r′ → a ≡ says r′
@@ -46,7 +51,7 @@ look-fits s {l} {many} h m e = record { short = s .short; few = omega (arith, s 
 module _ (at : ℕ → Answer ℕ) (n place many few : ℕ) (w w′ : List ℕ) (got : First) (e : few ≡ min many (place + 1))
     (f : Firsts at few 0 w w′ got) where
   sought-on : (s : Place) → got .count ≤ s .number → s .number ≤ place → seek at n place (many - got .count) (0 + got .count) (s .number)
-      ≡ refused (cond (ltb (got .count) many) (got .refusal) fault)
+      ≡ refused (cond (ltb (got .count) many) (got .refusal) broken)
   sought-on s a b =
       by-order (got .count) many
       (λ h. rw (lt-ltb _ _ h)
@@ -79,7 +84,7 @@ module _ (p : Plan) (body : List ℕ) (n c : ℕ) (e : p ≡ code c) where
 
 -- ---- stage by stage
 module _ (p : Plan) (body : List ℕ) (n place : ℕ) where
-  pub look-bad : p ≡ bad → refused fault ≡ look p body n place
+  pub look-bad : p ≡ bad → refused broken ≡ look p body n place
   look-bad e = sym (bad-at p body n e place)
 
   pub look-code : (c : ℕ) (a : Answer ℕ) → p ≡ code c → a ≡ lookCode (codeOf c) body n place → a ≡ look p body n place
@@ -89,14 +94,23 @@ module _ (p : Plan) (body : List ℕ) (n place : ℕ) where
   look-as q a e h = h ∙ ap (λ (x : Plan). look x body n place) (sym e)
 
   module _ (q : Plan) (e : p ≡ differences q) where
-    pub differences-refused : (z : ℕ) → total (look q body n) (place + 1) ≡ refused z → refused z ≡ look p body n place
-    differences-refused z h = sym (differences-at p body n q e place ∙ rw h)
+    -- the sum is refused: first by what its numbers are read from, then by itself
+    pub differences-refused : (z t r : ℕ) → total (look q body n) (place + 1) ≡ refused z → t ≡ number (numbersThrough q body n place)
+        → r ≡ cond (eqb t 0) z t → refused r ≡ look p body n place
+    differences-refused z t r h et er =
+        let (k, l, s) = total-stops (look q body n) (place + 1) z h in
+        rw (e, er, et) (sym (differences-later q body n place k z (omega arith) s (through-faulty laws q body n place)))
 
     pub differences-sum : (x : ℕ) (a : Answer ℕ) → total (look q body n) (place + 1) ≡ given x → a ≡ within x → a ≡ look p body n place
-    differences-sum x a h t = t ∙ sym (differences-at p body n q e place ∙ rw h)
+    unfolding look
+    differences-sum x a h t =
+        let (xs, s, long, at) = total-numbers (look q body n) (place + 1) x h in
+        let through = through-all q body n place xs (omega arith) (λ k l. at k (omega arith)) in
+        let all : take (place + 1) xs ≡ xs = take-all (place + 1) xs (omega arith) in
+        t ∙ sym (rw (e, through, all) (ap within s))
 
   module _ (q : Plan) (e : p ≡ reference q) where
-    pub look-short : length body < 4 → refused fault ≡ look p body n place
+    pub look-short : length body < 4 → refused cutShort ≡ look p body n place
     look-short h = sym (reference-short p body n q e h place)
 
     module _ (m : ℕ) (h : 4 ≤ length body) (em : m ≡ wordAt body 0) where

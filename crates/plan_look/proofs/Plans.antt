@@ -6,7 +6,7 @@ use native.Mathlib.Omega.{arith}
 use lib.ListN.{length, take, drop}
 use Rattle.meaning.specs.Bytes.{wordAt}
 use Rattle.meaning.specs.Codes.{codeOf, lookCode}
-use Rattle.meaning.specs.Limits.{fault}
+use Rattle.meaning.specs.Limits.{cutShort, broken}
 use Rattle.meaning.specs.Places.{part}
 use Rattle.meaning.specs.Plan.{Plan, bad, code, reference, differences, runs, planAt, planSize}
 use Rattle.meaning.specs.Stages.{sumsFrom, look}
@@ -18,17 +18,17 @@ use Rattle.stages.proofs.Headers.{Headed, Headless}
 use Rattle.stages.proofs.Parts.{shorter}
 use Rattle.stages.proofs.Rooms.{fits-list}
 use Rattle.stages.proofs.Scans.{raisedBy}
-use Rattle.plan_look.specs.Turns.{raisedAt, summedAt, endedBy, cutAt, RunsTurned}
+use Rattle.plan_look.specs.Turns.{raisedAt, endedBy, stopAt, RunsTurned}
 use Rattle.plan_look.proofs.Turns.{firsts-none, firsts-as, firsts-stay, raised-firsts, summed-firsts}
-use Rattle.plan_look.proofs.Looks.{bad-at, code-at, reference-short, reference-at, differences-at, runs-refused, runs-at}
+use Rattle.plan_look.proofs.Looks.{bad-at, code-at, reference-short, reference-at, runs-refused, runs-at}
 
 pub code-space : {body work : List ℕ} {l n from k : ℕ} → Fits body work l n from → k ≤ n → Space body n k work from
 code-space s h = record { short = s .short; few = s .few; inside = h; room = omega (arith, fits-list s) }
 
 -- ---- stage by stage
 module _ (p : Plan) (body : List ℕ) (n k from : ℕ) (w : List ℕ) where
-  pub bad-firsts : p ≡ bad → {r : First} → r ≡ endedBy k 0 fault → Firsts (look p body n) k from w w r
-  bad-firsts e er = rw er (firsts-none (look p body n) k from w fault (bad-at p body n e 0))
+  pub bad-firsts : p ≡ bad → {r : First} → r ≡ endedBy k 0 broken → Firsts (look p body n) k from w w r
+  bad-firsts e er = rw er (firsts-none (look p body n) k from w broken (bad-at p body n e 0))
 
   module _ (w′ : List ℕ) (r : First) where
     pub code-firsts : (c : ℕ) → p ≡ code c → Firsts (lookCode (codeOf c) body n) k from w w′ r → Firsts (look p body n) k from w w′ r
@@ -39,20 +39,20 @@ module _ (p : Plan) (body : List ℕ) (n k from : ℕ) (w : List ℕ) where
 
   module _ (q : Plan) (w₁ w₂ : List ℕ) (got r : First) (c : ℕ) where
     pub differences-firsts : p ≡ differences q → Firsts (look q body n) k from w w₁ got → Stored (sumsFrom 0 (part w₁ from (got .count))) from w₁ w₂ c
-        → r ≡ cutAt got c → from + got .count ≤ length w₁ → Firsts (look p body n) k from w w₂ r
+        → r ≡ stopAt got c → from + got .count ≤ length w₁ → Firsts (look p body n) k from w w₂ r
     differences-firsts e f so er room =
-        rw er (firsts-as (summedAt (look q body n)) (look p body n) k from w w₂ (cutAt got c) (differences-at p body n q e) (summed-firsts f room w₂ c so))
+        rw er (subst (λ (x : Plan). Firsts (look x body n) k from w w₂ (stopAt got c)) (sym e) (summed-firsts q body n f room w₂ c so))
 
     pub reference-firsts : p ≡ reference q → 4 ≤ length body → (m : ℕ) → m ≡ wordAt body 0
         → Firsts (look q (take (length body - 4) (drop 4 body)) n) k from w w₁ got
-        → Stored (raisedBy m (part w₁ from (got .count))) from w₁ w₂ c → r ≡ cutAt got c → from + got .count ≤ length w₁
+        → Stored (raisedBy m (part w₁ from (got .count))) from w₁ w₂ c → r ≡ stopAt got c → from + got .count ≤ length w₁
         → Firsts (look p body n) k from w w₂ r
     reference-firsts e h m em f so er room =
         let at = look q (take (length body - 4) (drop 4 body)) n in
-        rw er (firsts-as (raisedAt m at) (look p body n) k from w w₂ (cutAt got c) (reference-at p body n q e m h em) (raised-firsts f room m w₂ c so))
+        rw er (firsts-as (raisedAt m at) (look p body n) k from w w₂ (stopAt got c) (reference-at p body n q e m h em) (raised-firsts f room m w₂ c so))
 
-  pub reference-none : (q : Plan) → p ≡ reference q → length body < 4 → {r : First} → r ≡ endedBy k 0 fault → Firsts (look p body n) k from w w r
-  reference-none q e h er = rw er (firsts-none (look p body n) k from w fault (reference-short p body n q e h 0))
+  pub reference-none : (q : Plan) → p ≡ reference q → length body < 4 → {r : First} → r ≡ endedBy k 0 cutShort → Firsts (look p body n) k from w w r
+  reference-none q e h er = rw er (firsts-none (look p body n) k from w cutShort (reference-short p body n q e h 0))
 
 -- ---- runs, of which the second inner plan begins where the first ends
 module _ (p : Plan) (l : ℕ) (bytes : List ℕ) (x : ℕ) (body : List ℕ) (n k from : ℕ) (w : List ℕ) where

@@ -9,26 +9,24 @@ use lib.ListN.{length, getD, take}
 use lib.Seq.{take-all, getD-take}
 use borrow.Author.Tests.{lt-ltb, le-ltb}
 use Rattle.meaning.specs.Answer.{Answer, given, refused}
-use Rattle.meaning.specs.Limits.{fault, numberLimit}
+use Rattle.meaning.specs.Limits.{broken}
 use Rattle.meaning.specs.Lists.{sum}
 use Rattle.meaning.specs.Places.{part}
-use Rattle.meaning.specs.Stages.{sumsFrom, within, total}
+use Rattle.meaning.specs.Plan.{Plan, differences}
+use Rattle.meaning.specs.Stages.{sumsFrom, within, look}
 use Rattle.meaning.proofs.Tests.{by-order}
 use Rattle.leaves.proofs.Parts.{part-length}
-use Rattle.codes.specs.Firsts.{Firsts}
+use Rattle.codes.specs.Firsts.{Firsts, total}
 use Rattle.codes.specs.declared.First.{First}
-use Rattle.codes.proofs.Totals.{total-refused}
+use Rattle.codes.proofs.Totals.{total-refused, total-taken}
 use Rattle.stages.specs.Firsts.{firstSmall, Stored}
 use Rattle.stages.proofs.Firsts.{first-most, first-small, first-large}
-use Rattle.stages.proofs.Looks.{within-given, sum-taken, total-taken}
+use Rattle.stages.proofs.Looks.{within-given, sum-taken}
 use Rattle.stages.proofs.Parts.{part-get, shorter}
 use Rattle.stages.proofs.Raises.{stored-kept, stored-at}
 use Rattle.stages.proofs.Scans.{raisedBy, raised-at, raise-scan, sums-scan, scan-length}
-use Rattle.plan_look.specs.Turns.{raisedAt, summedAt, endedBy, cutAt}
-
-pub within-over : (x : ℕ) → numberLimit ≤ x → within x ≡ refused fault
-unfolding within
-within-over x h = rw (le-ltb x numberLimit h)
+use Rattle.stages.proofs.Through.{within-over, through-all, differences-first}
+use Rattle.plan_look.specs.Turns.{raisedAt, endedBy, stopAt}
 
 -- ---- first numbers
 -- c numbers of k, and a refusal after them
@@ -84,11 +82,11 @@ module _ {at : ℕ → Answer ℕ} {k from : ℕ} {w₀ w : List ℕ} {got : Fir
     numbers-long : length got-numbers ≡ got .count
     numbers-long = part-length w from (got .count) room
 
-    firsts-cut : (stage : ℕ → Answer ℕ) (ys : List ℕ) → length ys ≡ got .count → ((i : ℕ) → i < got .count → stage i ≡ within (getD ys i 0))
+    firsts-stopped : (stage : ℕ → Answer ℕ) (ys : List ℕ) → length ys ≡ got .count → ((i : ℕ) → i < got .count → stage i ≡ within (getD ys i 0))
         → ((z : ℕ) → at (got .count) ≡ refused z → stage (got .count) ≡ refused z) → (w′ : List ℕ) (c : ℕ) → Stored ys from w w′ c
-        → Firsts stage k from w₀ w′ (cutAt got c)
-    unfolding cutAt
-    firsts-cut stage ys long told stops w′ c so =
+        → Firsts stage k from w₀ w′ (stopAt got c)
+    unfolding stopAt
+    firsts-stopped stage ys long told stops w′ c so =
         let few = first-most ys in
         by-order c (got .count)
         (λ h. rw (lt-ltb c (got .count) h)
@@ -111,31 +109,17 @@ module _ {at : ℕ → Answer ℕ} {k from : ℕ} {w₀ w : List ℕ} {got : Fir
         here i l h =
             told i h ∙ within-given (getD ys i 0) (first-small ys i (omega (arith, so .many))) ∙ ap (λ (x : ℕ). given x) (sym (stored-at so (omega arith) i l))
 
-        over : c < got .count → stage c ≡ refused fault
+        over : c < got .count → stage c ≡ refused broken
         over h =
             let large = first-large ys (omega (arith, so .many)) in
             told c h ∙ ap (λ (i : ℕ). within (getD ys i 0)) (so .many) ∙ within-over (getD ys (firstSmall ys) 0) large
 
-    pub raised-firsts : (m : ℕ) (w′ : List ℕ) (c : ℕ) → Stored (raisedBy m got-numbers) from w w′ c → Firsts (raisedAt m at) k from w₀ w′ (cutAt got c)
+    pub raised-firsts : (m : ℕ) (w′ : List ℕ) (c : ℕ) → Stored (raisedBy m got-numbers) from w w′ c → Firsts (raisedAt m at) k from w₀ w′ (stopAt got c)
     raised-firsts m w′ c so =
-        firsts-cut (raisedAt m at) (raisedBy m got-numbers) (scan-length raisedBy _ _ raise-scan m got-numbers ∙ numbers-long)
+        firsts-stopped (raisedAt m at) (raisedBy m got-numbers) (scan-length raisedBy _ _ raise-scan m got-numbers ∙ numbers-long)
         (λ i h. rw (numbers-at i h) (ap within (raised-at m got-numbers i (omega (arith, numbers-long)))))
         (λ z e. rw e)
         w′ c so
-
-    pub summed-firsts : (w′ : List ℕ) (c : ℕ) → Stored (sumsFrom 0 got-numbers) from w w′ c → Firsts (summedAt at) k from w₀ w′ (cutAt got c)
-    summed-firsts w′ c so =
-        firsts-cut (summedAt at) (sumsFrom 0 got-numbers) (scan-length sumsFrom _ _ sums-scan 0 got-numbers ∙ numbers-long)
-        (λ i h. rw (taken (i + 1) (omega arith)) (ap within (through i h)))
-        (λ z e. rw (total-refused at (got .count) (got .count + 1) (sum (take (got .count) got-numbers)) z (omega arith) (taken (got .count) (omega arith)) e))
-        w′ c so
-      where
-        taken : (i : ℕ) → i ≤ got .count → total at i ≡ given (sum (take i got-numbers))
-        taken i h = total-taken at got-numbers (λ j l. numbers-at j (omega (arith, numbers-long))) i (omega (arith, numbers-long))
-
-        through : (i : ℕ) → i < got .count → sum (take (i + 1) got-numbers) ≡ getD (sumsFrom 0 got-numbers) i 0
-        through i h =
-            rw (add-one i) (sym (sum-taken 0 i got-numbers (omega (arith, numbers-long)) ∙ zero-add (sum (take (suc i) got-numbers))))
 
   -- ---- their sum
   pub total-fewer : got .count < k → from + got .count ≤ length w → refused (got .refusal) ≡ total at k
@@ -149,3 +133,25 @@ module _ {at : ℕ → Answer ℕ} {k from : ℕ} {w₀ w : List ℕ} {got : Fir
       let long = part-length w from k room in
       ap (λ (x : ℕ). given x) (e ∙ ap sum (sym (take-all k (part w from k) (omega arith))))
       ∙ sym (total-taken at (part w from k) (λ j l. f .are j (omega arith) ∙ ap (λ (x : ℕ). given x) (sym (part-get w from k j (omega arith)))) k (omega arith))
+
+-- ---- under differences: all that a place is read from comes before its sum
+module _ (q : Plan) (body : List ℕ) (n : ℕ) {k from : ℕ} {w₀ w : List ℕ} {got : First} (f : Firsts (look q body n) k from w₀ w got)
+    (room : from + got .count ≤ length w) where
+  abbrev taken : List ℕ
+  taken = part w from (got .count)
+
+  taken-long : length taken ≡ got .count
+  taken-long = part-length w from (got .count) room
+
+  sum-through : (i : ℕ) → i < got .count → look (differences q) body n i ≡ within (getD (sumsFrom 0 taken) i 0)
+  unfolding look
+  sum-through i h =
+      let through = through-all q body n i taken (omega (arith, taken-long)) (λ j l. numbers-at f j (omega arith)) in
+      let sums = sum-taken 0 i taken (omega (arith, taken-long)) ∙ zero-add (sum (take (suc i) taken)) in
+      rw (through, add-one i) (ap within (sym sums))
+
+  pub summed-firsts : (w′ : List ℕ) (c : ℕ) → Stored (sumsFrom 0 taken) from w w′ c → Firsts (look (differences q) body n) k from w₀ w′ (stopAt got c)
+  summed-firsts w′ c so =
+      firsts-stopped f room (look (differences q) body n) (sumsFrom 0 taken) (scan-length sumsFrom _ _ sums-scan 0 taken ∙ taken-long) sum-through
+      (λ z e. differences-first q body n (got .count) z (λ j l. (getD taken j 0, numbers-at f j l)) e)
+      w′ c so

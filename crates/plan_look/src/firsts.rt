@@ -5,7 +5,8 @@ use judge::stage::Stage;
 use judge::stage::plan_end;
 use judge::stage::stage_at;
 use leaves::lesser;
-use meaning::FAULT;
+use meaning::BROKEN;
+use meaning::CUT_SHORT;
 use meaning::Offset;
 use meaning::Place;
 use stages::Header;
@@ -23,7 +24,7 @@ ghost use Rattle.meaning.specs.Plan.{planAt, runsAt};
 ghost use Rattle.meaning.specs.Stages.{look};
 ghost use Rattle.codes.specs.Firsts.{Firsts};
 ghost use Rattle.stages.specs.Room.{Fits};
-ghost use Rattle.plan_look.specs.Turns.{endedBy, cutAt, nextRefusal, RunsTurned};
+ghost use Rattle.plan_look.specs.Turns.{endedBy, stopAt, nextRefusal, RunsTurned};
 
 // So many numbers of k, and then a refusal where there are fewer.
 fn ended(count: usize, k: usize, refusal: u8) -> First
@@ -39,13 +40,13 @@ fn ended(count: usize, k: usize, refusal: u8) -> First
 }
 
 // What was got, up to a number that is too large.
-fn cut_at(got: First, count: usize) -> First
-    ensures { λ r. ⌜ r ≡ cutAt got count ⌝ }
+fn stop_at(got: First, count: usize) -> First
+    ensures { λ r. ⌜ r ≡ stopAt got count ⌝ }
 {
     if count < got.count {
         return First {
             count,
-            refusal: FAULT,
+            refusal: BROKEN,
         };
     }
     got
@@ -70,12 +71,12 @@ fn next_refusal(
         if run_fits(n, laid.numbers, work[first + j]) {
             return values.refusal;
         }
-        return FAULT;
+        return BROKEN;
     }
     if j < runs {
         return lengths.refusal;
     }
-    FAULT
+    BROKEN
 }
 
 // The first k numbers of n that runs make; the values of the first runs stand n places after them, their lengths 2n.
@@ -117,21 +118,21 @@ pub fn firsts_plan(
         (now (work .exit)) r ⌝ }
 {
     match stage_at(plan, pos, stages) {
-        Stage::Bad => ended(0, k, FAULT),
+        Stage::Bad => ended(0, k, BROKEN),
         Stage::Code(code) => firsts_code(code, body, n, k, work, from),
         Stage::Reference(next, less) => {
             if body.len() < 4 {
-                return ended(0, k, FAULT);
+                return ended(0, k, CUT_SHORT);
             }
             let m = word_at(body, Offset { byte: 0 });
             let got = firsts_plan(plan, next, less, &body[4..], n, k, work, from);
             let count = raise_firsts(work, from, got.count, m);
-            cut_at(got, count)
+            stop_at(got, count)
         }
         Stage::Differences(next, less) => {
             let got = firsts_plan(plan, next, less, body, n, k, work, from);
             let count = sum_firsts(work, from, got.count);
-            cut_at(got, count)
+            stop_at(got, count)
         }
         Stage::Runs(next, less) => firsts_runs(plan, next, less, body, n, k, work, from),
     }

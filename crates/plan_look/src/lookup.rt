@@ -11,7 +11,8 @@ use judge::stage::plan_end;
 use judge::stage::stage_at;
 use leaves::lesser;
 use leaves::long;
-use meaning::FAULT;
+use meaning::BROKEN;
+use meaning::CUT_SHORT;
 use meaning::Found;
 use meaning::Offset;
 use meaning::Place;
@@ -22,12 +23,15 @@ use stages::seek_in;
 use stages::total_of;
 use words::word_at;
 ghost use mathlib.Core.Path.{_≡_};
+ghost use mathlib.Core.Bool.{cond};
 ghost use Prim.Native.Nat.{_+_, _≤_};
+ghost use lib.Dec.{eqb};
+ghost use Rattle.meaning.specs.Answer.{number};
 ghost use Rattle.meaning.specs.Limits.{mostStages};
 ghost use Rattle.meaning.specs.Plan.{planAt, planOf, runsAt};
 ghost use Rattle.meaning.specs.Says.{foundSays};
-ghost use Rattle.meaning.specs.Stages.{look, seek, total, within};
-ghost use Rattle.codes.specs.Firsts.{Looked};
+ghost use Rattle.meaning.specs.Stages.{look, numbersThrough, seek, within};
+ghost use Rattle.codes.specs.Firsts.{Looked, total};
 ghost use Rattle.codes.specs.Started.{totalSays, runSays};
 ghost use Rattle.plan_look.specs.Turns.{runOf};
 
@@ -38,7 +42,7 @@ fn number_of(sum: u64) -> Found
     if sum <= 4294967295 {
         return Found::Number(sum as u32);
     }
-    Found::Refused(FAULT)
+    Found::Refused(BROKEN)
 }
 
 // The sum of the numbers through a place, below a stage: they are collected first.
@@ -84,7 +88,7 @@ fn run_of(sought: Sought, got: First, runs: usize) -> Run
             if got.count < runs {
                 return Run::Refused(got.refusal);
             }
-            Run::Refused(FAULT)
+            Run::Refused(BROKEN)
         }
         Sought::Refused(e) => Run::Refused(e),
     }
@@ -129,6 +133,71 @@ fn find_run(
     seek_code(code, body, runs, n, place)
 }
 
+// The number of a sum's refusal, 0 where it is none.
+fn total_refusal(t: Total) -> u8
+    ensures { λ r. ⌜ r ≡ number (totalSays t) ⌝ }
+{
+    match t {
+        Total::Sum(_) => 0,
+        Total::Refused(e) => e,
+    }
+}
+
+// The first of two refusals: the second where the first is none.
+fn first_refusal(first: u8, second: u8) -> u8
+    ensures { λ r. ⌜ r ≡ cond (eqb first 0) second first ⌝ }
+{
+    if first == 0 {
+        return second;
+    }
+    first
+}
+
+// The refusal of the numbers through a place when they are taken once and no sum is tested; 0 where all that they are read from is there. It is asked for
+// only where their sum is refused: a number that is too large comes after whatever is cut short or broken behind it.
+fn taking_refusal(
+    plan: &[u8],
+    pos: Offset,
+    stages: usize,
+    body: &[u8],
+    n: usize,
+    place: Place,
+) -> u8
+    requires { ⌜ (Looked (now body) n (place .number)) × (stages ≤ 2) ⌝ }
+    ensures { λ r. ⌜ r ≡ number (numbersThrough (planAt stages (now (plan .entry)) (pos .byte)) (now (body .entry)) n (place .number)) ⌝ }
+{
+    match stage_at(plan, pos, stages) {
+        Stage::Bad => BROKEN,
+        Stage::Code(_) => total_refusal(total_plan(plan, pos, stages, body, n, place)),
+        Stage::Reference(next, less) => {
+            if body.len() < 4 {
+                return CUT_SHORT;
+            }
+            taking_refusal(plan, next, less, &body[4..], n, place)
+        }
+        Stage::Differences(_, _) => total_refusal(total_plan(plan, pos, stages, body, n, place)),
+        Stage::Runs(next, less) => taking_runs(plan, next, less, body, n, place),
+    }
+}
+
+// By a run stage whose two inner plans begin at `pos`: the lengths through the run that holds the place, then the values through it.
+fn taking_runs(plan: &[u8], pos: Offset, stages: usize, body: &[u8], n: usize, place: Place) -> u8
+    requires { ⌜ (Looked (now body) n (place .number)) × (stages ≤ 2) ⌝ }
+    ensures { λ r. ⌜ r ≡ number (numbersThrough (runsAt stages (now (plan .entry)) (pos .byte)) (now (body .entry)) n (place .number)) ⌝ }
+{
+    match header_of(body, n) {
+        Header::Refused(e) => e,
+        Header::Runs(runs, end) => {
+            let split = end.byte;
+            let after = plan_end(plan, pos, stages);
+            match find_run(plan, after, stages, &body[split..], runs, n, place) {
+                Run::Refused(e) => e,
+                Run::At(run) => taking_refusal(plan, pos, stages, &body[8..split], runs, run),
+            }
+        }
+    }
+}
+
 // The number at a place of n.
 pub fn lookup_plan(
     plan: &[u8],
@@ -142,11 +211,11 @@ pub fn lookup_plan(
     ensures { λ r. ⌜ foundSays r ≡ look (planAt stages (now (plan .entry)) (pos .byte)) (now (body .entry)) n (place .number) ⌝ }
 {
     match stage_at(plan, pos, stages) {
-        Stage::Bad => Found::Refused(FAULT),
+        Stage::Bad => Found::Refused(BROKEN),
         Stage::Code(code) => lookup_code(code, body, n, place),
         Stage::Reference(next, less) => {
             if body.len() < 4 {
-                return Found::Refused(FAULT);
+                return Found::Refused(CUT_SHORT);
             }
             let m = long(word_at(body, Offset { byte: 0 }));
             match lookup_plan(plan, next, less, &body[4..], n, place) {
@@ -155,7 +224,10 @@ pub fn lookup_plan(
             }
         }
         Stage::Differences(next, less) => match total_plan(plan, next, less, body, n, place) {
-            Total::Refused(e) => Found::Refused(e),
+            Total::Refused(e) => {
+                let taking = taking_refusal(plan, next, less, body, n, place);
+                Found::Refused(first_refusal(taking, e))
+            }
             Total::Sum(sum) => number_of(sum),
         },
         Stage::Runs(next, less) => lookup_runs(plan, next, less, body, n, place),

@@ -8,7 +8,7 @@ use borrow.Author.Tests.{le-leb, lt-leb}
 use Rattle.meaning.specs.Answer.{Answer, bind}
 use Rattle.meaning.specs.Bytes.{wordAt}
 use Rattle.meaning.specs.Codes.{codeOf, readCode}
-use Rattle.meaning.specs.Limits.{fault}
+use Rattle.meaning.specs.Limits.{cutShort, broken}
 use Rattle.meaning.specs.Places.{Below, part, Got}
 use Rattle.meaning.specs.Plan.{Plan, bad, code, reference, differences, runs, planAt, planSize}
 use Rattle.meaning.specs.Stages.{raised, summed, unrolled, read}
@@ -33,9 +33,9 @@ whole-is laws p body n from w w₁ q k b s e =
 
 -- ---- stages
 module _ (p : Plan) (body : List ℕ) (n from : ℕ) where
-  pub step-bad : (w : List ℕ) → p ≡ bad → Got (read p body n) from w w (Refused fault)
+  pub step-bad : (w : List ℕ) → p ≡ bad → Got (read p body n) from w w (Refused broken)
   unfolding read
-  step-bad w e = got-refused _ from w w fault (rw e) refl
+  step-bad w e = got-refused _ from w w broken (rw e) refl
 
   pub step-code : (c : ℕ) (w w′ : List ℕ) (r : Reading) → p ≡ code c → Got (readCode (codeOf c) body n) from w w′ r → Got (read p body n) from w w′ r
   unfolding read
@@ -45,9 +45,9 @@ module _ (p : Plan) (body : List ℕ) (n from : ℕ) where
   step-as q w w′ r e s = got-as _ _ from w w′ r (ap (λ (x : Plan). read x body n) e) s
 
   module _ (q : Plan) (e : p ≡ reference q) where
-    pub step-reference-short : (w : List ℕ) → length body < 4 → Got (read p body n) from w w (Refused fault)
+    pub step-reference-short : (w : List ℕ) → length body < 4 → Got (read p body n) from w w (Refused cutShort)
     unfolding read
-    step-reference-short w h = got-refused _ from w w fault (rw (e, lt-leb 4 (length body) h)) refl
+    step-reference-short w h = got-refused _ from w w cutShort (rw (e, lt-leb 4 (length body) h)) refl
 
     reference-is : 4 ≤ length body → read p body n ≡ bind (read q (take (length body - 4) (drop 4 body)) n) (raised (wordAt body 0))
     unfolding read
@@ -80,7 +80,7 @@ module _ (p : Plan) (body : List ℕ) (n from : ℕ) where
 module _ (p q : Plan) (body : List ℕ) (n from : ℕ) where
   pub runs-none : {z : ℕ} (w : List ℕ) → Headless n body z → Got (read (runs p q) body n) from w w (Refused z)
   unfolding read
-  runs-none {z} w h = let e = h .refusal in got-refused _ from w w z (rw (h .none, e)) refl
+  runs-none {z} w h = got-refused _ from w w z (rw (h .none)) refl
 
   module _ {k split : ℕ} (h : Headed n body k split) where
     runs-is : read (runs p q) body n

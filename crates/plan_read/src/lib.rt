@@ -3,7 +3,8 @@ use codes::read_code;
 use judge::stage::Stage;
 use judge::stage::plan_end;
 use judge::stage::stage_at;
-use meaning::FAULT;
+use meaning::BROKEN;
+use meaning::CUT_SHORT;
 use meaning::Offset;
 use meaning::Place;
 use meaning::Reading;
@@ -36,11 +37,11 @@ pub fn read_plan(
         (now (work .exit)) r ⌝ }
 {
     match stage_at(plan, pos, stages) {
-        Stage::Bad => Reading::Refused(FAULT),
+        Stage::Bad => Reading::Refused(BROKEN),
         Stage::Code(code) => read_code(code, body, n, work, from),
         Stage::Reference(next, less) => {
             if body.len() < 4 {
-                return Reading::Refused(FAULT);
+                return Reading::Refused(CUT_SHORT);
             }
             let m = word_at(body, Offset { byte: 0 });
             match read_plan(plan, next, less, &body[4..], n, work, from) {

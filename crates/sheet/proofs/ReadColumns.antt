@@ -6,7 +6,7 @@ use mathlib.Core.List.{List}
 use native.Mathlib.Omega.{arith}
 use lib.ListN.{length, length-take}
 use Rattle.meaning.specs.Answer.{Answer, given, need}
-use Rattle.meaning.specs.Limits.{fault}
+use Rattle.meaning.specs.Limits.{broken}
 use Rattle.meaning.specs.Places.{part, Below, Got}
 use Rattle.meaning.specs.Plan.{planOf}
 use Rattle.meaning.specs.Sheet.{Column, ofKind, editionOf, readColumn}
@@ -23,7 +23,7 @@ use Rattle.codes.proofs.Numbered.{laws}
 
 -- what is asked of a list that was read for a kind, by the edition
 abbrev keep : ℕ → ℕ → List ℕ → Answer (List ℕ)
-keep edition kind xs = need (ofKind edition kind xs) fault (given xs)
+keep edition kind xs = need (ofKind edition kind xs) broken (given xs)
 
 -- a list that stands in work where it is
 got-part : (w : List ℕ) (n : ℕ) → length (part w 0 n) ≡ n → Got (given (part w 0 n)) 0 w w (Whole n)
@@ -59,11 +59,11 @@ module _ (sheet : List ℕ) (e : Entry) {w w₁ : List ℕ} {q : Reading}
           got-then all 0 w w₁ q so (keep (editionOf sheet) (e .kind)) n t w₁ (Whole n)
           (subst (λ (a : Answer (List ℕ)). Got a 0 w₁ w₁ (Whole n)) (sym k) (got-part w₁ n (got-given all 0 w w₁ q so n t .1)))
 
-      pub column-other : false ≡ ofKind edition (e .kind) (part w₁ 0 n) → Got (readColumn (columnOf sheet e)) 0 w w₁ (Refused fault)
+      pub column-other : false ≡ ofKind edition (e .kind) (part w₁ 0 n) → Got (readColumn (columnOf sheet e)) 0 w w₁ (Refused broken)
       unfolding readColumn
       column-other y =
-          got-then all 0 w w₁ q so (keep (editionOf sheet) (e .kind)) n t w₁ (Refused fault)
-          (got-refused (keep (editionOf sheet) (e .kind) (part w₁ 0 n)) 0 w₁ w₁ fault (rw (← known, ← y)) refl)
+          got-then all 0 w w₁ q so (keep (editionOf sheet) (e .kind)) n t w₁ (Refused broken)
+          (got-refused (keep (editionOf sheet) (e .kind) (part w₁ 0 n)) 0 w₁ w₁ broken (rw (← known, ← y)) refl)
 
 -- a column that was read: its plan's reading, of the declared kind
 pub column-given : (c : Column) (xs : List ℕ) → readColumn c ≡ given xs
@@ -71,7 +71,7 @@ pub column-given : (c : Column) (xs : List ℕ) → readColumn c ≡ given xs
 unfolding readColumn
 column-given c xs e =
     let (ys, er, ek) = bind-given (read (planOf (c .plan)) (c .body) (c .count)) (keep (c .edition) (c .kind)) xs e in
-    let (o, g) = need-given (ofKind (c .edition) (c .kind) ys) fault (given ys) xs ek in
+    let (o, g) = need-given (ofKind (c .edition) (c .kind) ys) broken (given ys) xs ek in
     let same : ys ≡ xs = cc in
     (er ∙ g, subst (λ (l : List ℕ). ofKind (c .edition) (c .kind) l ≡ true) same o)
 

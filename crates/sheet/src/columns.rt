@@ -1,5 +1,5 @@
 // A column's numbers by its entry, read into work.
-use meaning::FAULT;
+use meaning::BROKEN;
 use meaning::PLAN_BYTES;
 use meaning::Place;
 use meaning::Reading;
@@ -31,7 +31,7 @@ pub fn read_column(sheet: &[u8], entry: Entry, work: &mut [u32]) -> Reading
             if kept {
                 return Reading::Whole(n);
             }
-            Reading::Refused(FAULT)
+            Reading::Refused(BROKEN)
         }
     }
 }

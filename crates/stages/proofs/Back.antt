@@ -1,5 +1,5 @@
 -- Law (b): what a plan reads as a list is what it writes from it, byte for byte. Assumes only the laws of the codes.
-use Prim.Native.Nat.{ℕ, _+_, _-_, _≤_}
+use Prim.Native.Nat.{ℕ, _+_}
 use mathlib.Core.Path.{_≡_, refl, sym, ap, ap₂, _∙_, subst}
 use mathlib.Core.Bool.{true}
 use mathlib.Core.List.{List, _++_}
@@ -11,15 +11,15 @@ use borrow.Author.Tests.{leb-true}
 use Rattle.meaning.specs.Answer.{given}
 use Rattle.meaning.specs.Bytes.{word, wordAt}
 use Rattle.meaning.specs.Codes.{codeOf}
-use Rattle.meaning.specs.Limits.{numberLimit, fault}
+use Rattle.meaning.specs.Limits.{numberLimit, cutShort}
 use Rattle.meaning.specs.Places.{Below}
 use Rattle.meaning.specs.Plan.{Plan, bad, code, reference, differences, runs}
 use Rattle.meaning.specs.Stages.{lessBefore, sumsFrom, runValues, runLengths, write, raised, summed, unrolled, runHeader, valuesBody, lengthsBody, read}
 use Rattle.meaning.proofs.Answers.{bind-given, need-given, not-given}
 use Rattle.meaning.proofs.Bounds.{below-take, below-drop}
 use Rattle.meaning.proofs.Lawful.{Lawful}
-use Rattle.meaning.proofs.Tests.{both-true}
 use Rattle.stages.proofs.Differences.{gaps-sums, Summed, summed-is}
+use Rattle.stages.proofs.Headers.{header-fits}
 use Rattle.stages.proofs.Reference.{less-raise, Raised, raised-is}
 use Rattle.stages.proofs.RunsBack.{runs-unroll, unroll-length, unroll-below, Unrolled, unrolled-is}
 use Rattle.stages.proofs.Scans.{lessBy, raisedBy, raise-scan, sums-scan, scan-length}
@@ -36,7 +36,7 @@ pub record ReferenceRead (p : Plan) (body : List ℕ) (n : ℕ) (xs : List ℕ) 
 pub reference-read : (p : Plan) (body : List ℕ) (n : ℕ) (xs : List ℕ) → read (reference p) body n ≡ given xs → ReferenceRead p body n xs
 unfolding read
 reference-read p body n xs e =
-    let (f, e₁) = need-given (leb 4 (length body)) fault _ xs e in
+    let (f, e₁) = need-given (leb 4 (length body)) cutShort _ xs e in
     let (ys, r, e₂) = bind-given (read p (drop 4 body) n) (raised (wordAt body 0)) xs e₁ in
     record { ys = ys; fits = f; inner = r; raised = raised-is (wordAt body 0) ys xs e₂ }
 
@@ -54,7 +54,7 @@ differences-read p body n xs e =
 pub record RunsRead (p q : Plan) (body : List ℕ) (n : ℕ) (xs : List ℕ) : Type 0 where
   pub vs : List ℕ
   pub ls : List ℕ
-  pub header : runHeader n body ≡ true
+  pub header : runHeader n body ≡ given tt
   pub values : read p (valuesBody body) (wordAt body 0) ≡ given vs
   pub lengths : read q (lengthsBody body) (wordAt body 0) ≡ given ls
   pub unrolled : unrolled n vs ls ≡ given xs
@@ -62,17 +62,10 @@ pub record RunsRead (p q : Plan) (body : List ℕ) (n : ℕ) (xs : List ℕ) : T
 pub runs-read : (p q : Plan) (body : List ℕ) (n : ℕ) (xs : List ℕ) → read (runs p q) body n ≡ given xs → RunsRead p q body n xs
 unfolding read
 runs-read p q body n xs e =
-    let (h, e₁) = need-given (runHeader n body) fault _ xs e in
+    let (u, h, e₁) = bind-given (runHeader n body) _ xs e in
     let (vs, rv, e₂) = bind-given (read p (valuesBody body) (wordAt body 0)) _ xs e₁ in
     let (ls, rl, e₃) = bind-given (read q (lengthsBody body) (wordAt body 0)) (unrolled n vs) xs e₂ in
     record { vs = vs; ls = ls; header = h; values = rv; lengths = rl; unrolled = e₃ }
-
-header-fits : (n : ℕ) (body : List ℕ) → runHeader n body ≡ true → (8 ≤ length body) × (wordAt body 4 ≤ length body - 8)
-unfolding runHeader
-header-fits n body e =
-    let (a, e₁) = both-true (leb 8 (length body)) _ e in
-    let (b, c) = both-true (leb (wordAt body 0) n) _ e₁ in
-    (leb-true 8 (length body) a, leb-true (wordAt body 4) (length body - 8) c)
 
 -- ---- stage by stage: what the inner plan wrote, the stage did
 abbrev Wrote : Plan → List ℕ → ℕ → List ℕ → Type 0
@@ -104,7 +97,7 @@ back-differences p body n xs s i =
     )
 
 -- the same list of values and of lengths stand in both headers and bodies
-back-runs : (p q : Plan) (body : List ℕ) (n : ℕ) (xs vs ls : List ℕ) → Below 256 body → runHeader n body ≡ true → Unrolled n vs ls xs
+back-runs : (p q : Plan) (body : List ℕ) (n : ℕ) (xs vs ls : List ℕ) → Below 256 body → runHeader n body ≡ given tt → Unrolled n vs ls xs
     → Wrote p (valuesBody body) (wordAt body 0) vs → Wrote q (lengthsBody body) (wordAt body 0) ls → Wrote (runs p q) body n xs
 unfolding write
 back-runs p q body n xs vs ls b e u i j =

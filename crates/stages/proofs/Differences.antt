@@ -5,7 +5,7 @@ use mathlib.Core.Bool.{true}
 use mathlib.Core.List.{List, [], _∷_}
 use native.Mathlib.Omega.{arith}
 use Rattle.meaning.specs.Answer.{given}
-use Rattle.meaning.specs.Limits.{fault, numberLimit}
+use Rattle.meaning.specs.Limits.{broken, numberLimit}
 use Rattle.meaning.specs.Lists.{rises}
 use Rattle.meaning.specs.Places.{Below}
 use Rattle.meaning.specs.Stages.{lessBefore, sumsFrom, small, summed}
@@ -43,6 +43,6 @@ pub record Summed (gs xs : List ℕ) : Type 0 where
 pub summed-is : (gs xs : List ℕ) → summed gs ≡ given xs → Summed gs xs
 unfolding summed
 summed-is gs xs e =
-    let (s, e₁) = need-given (small (sumsFrom 0 gs)) fault _ xs e in
+    let (s, e₁) = need-given (small (sumsFrom 0 gs)) broken _ xs e in
     let is : sumsFrom 0 gs ≡ xs = cc in
     record { is = is; below = small-below xs (ap small (sym is) ∙ s) }

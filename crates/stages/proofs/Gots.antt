@@ -7,7 +7,7 @@ use native.Mathlib.Omega.{arith}
 use lib.ListN.{length, take}
 use lib.Seq.{sets}
 use Rattle.meaning.specs.Answer.{Answer, given, refused, bind, need, amount}
-use Rattle.meaning.specs.Limits.{fault}
+use Rattle.meaning.specs.Limits.{broken}
 use Rattle.meaning.specs.Places.{part, Got}
 use Rattle.meaning.specs.Says.{readingSays}
 use Rattle.meaning.specs.declared.Reading.{Reading}
@@ -56,6 +56,6 @@ module _ (a : Answer (List ℕ)) (from : ℕ) (w w₁ : List ℕ) (q : Reading) 
     got-then n e w₂ r next = rw (got-given n e .0) (record { told = next .told; here = next .here; kept = next .kept ∙ so .kept })
 
 -- the one refusal, whichever test comes first
-pub need-fault : {A : Type 0} (b : Bool) (m : Answer A) → m ≡ refused fault → need b fault m ≡ refused fault
-need-fault true m e = e
-need-fault false m e = refl
+pub need-broken : {A : Type 0} (b : Bool) (m : Answer A) → m ≡ refused broken → need b broken m ≡ refused broken
+need-broken true m e = e
+need-broken false m e = refl

@@ -18,7 +18,10 @@ pub mod Forth
 pub mod Back
 pub mod Unrolls
 pub mod Seeks
+pub mod Through
 pub mod Looks
+pub mod Faults
+pub mod Overruns
 pub mod Raises
 pub mod RunLoop
 pub mod Seekings

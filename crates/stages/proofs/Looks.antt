@@ -1,30 +1,28 @@
 -- Law (c): where reading by a plan gives a list, a lookup at every place gives the number there. Assumes only the laws of the codes.
-use Prim.Native.Nat.{ℕ, zero, suc, _+_, _-_, _≤_, _<_}
+use Prim.Native.Nat.{ℕ, zero, suc, _+_, _<_}
 use mathlib.Core.Path.{_≡_, refl, sym, ap, ap₂, _∙_}
-use mathlib.Core.Bool.{true}
 use mathlib.Core.List.{List, [], _∷_}
 use native.Mathlib.Nat.{zero-add, sub-zero}
 use native.Mathlib.Numerals.{add-one}
 use native.Mathlib.Omega.{arith}
 use lib.ListN.{length, getD, take, drop}
-use lib.Seq.{take-suc}
 use borrow.Author.Tests.{lt-ltb}
-use Rattle.meaning.specs.Answer.{Answer, given}
+use Rattle.meaning.specs.Answer.{given}
 use Rattle.meaning.specs.Bytes.{wordAt}
 use Rattle.meaning.specs.Codes.{codeOf}
 use Rattle.meaning.specs.Limits.{numberLimit}
 use Rattle.meaning.specs.Lists.{sum}
 use Rattle.meaning.specs.Places.{Below}
 use Rattle.meaning.specs.Plan.{Plan, bad, code, reference, differences, runs}
-use Rattle.meaning.specs.Stages.{sumsFrom, runHeader, valuesBody, lengthsBody, read, within, total, seek, look}
+use Rattle.meaning.specs.Stages.{sumsFrom, runHeader, valuesBody, lengthsBody, read, within, seek, look}
 use Rattle.meaning.proofs.Answers.{not-given}
 use Rattle.meaning.proofs.Bounds.{below-take, below-drop}
 use Rattle.meaning.proofs.Lawful.{Lawful, look-code}
-use Rattle.leaves.proofs.Joined.{sum-append}
 use Rattle.stages.proofs.Back.{ReferenceRead, reference-read, DifferencesRead, differences-read, runs-read, back}
 use Rattle.stages.proofs.RunsBack.{Unrolled, unrolled-is, unroll-length}
 use Rattle.stages.proofs.Scans.{raisedBy, raised-at, raise-scan, sums-scan, scan-length}
 use Rattle.stages.proofs.Seeks.{finds}
+use Rattle.stages.proofs.Through.{through-all}
 
 pub within-given : (x : ℕ) → x < numberLimit → within x ≡ given x
 unfolding within
@@ -36,14 +34,6 @@ unfolding sumsFrom sum
 sum-taken p i [] h = absurd (omega arith)
 sum-taken p zero (g ∷ gs) h = omega arith
 sum-taken p (suc i) (g ∷ gs) h = omega (arith, sum-taken (p + g) i gs (omega arith))
-
-pub total-taken : (at : ℕ → Answer ℕ) (gs : List ℕ) → ((i : ℕ) → i < length gs → at i ≡ given (getD gs i 0)) → (k : ℕ) → k ≤ length gs
-    → total at k ≡ given (sum (take k gs))
-unfolding total sum
-total-taken at gs h zero l = refl
-total-taken at gs h (suc k) l =
-    let next : sum (take k gs) + getD gs k 0 ≡ sum (take (suc k) gs) = omega (arith, ap sum (take-suc gs k 0 l), sum-append (take k gs) (getD gs k 0 ∷ [])) in
-    rw (total-taken at gs h k (omega arith), h k (omega arith)) (ap (λ (x : ℕ). given x) next)
 
 -- ---- stage by stage
 look-reference : (p : Plan) (body : List ℕ) (n : ℕ) (xs : List ℕ) (s : ReferenceRead p body n xs) (place : ℕ) → place < length xs
@@ -66,10 +56,10 @@ look-differences p body n xs s place h i =
     let k : place < length gs = omega (arith, ap length (r .is), scan-length sumsFrom _ _ sums-scan 0 gs) in
     let x : sum (take (place + 1) gs) ≡ getD xs place 0 =
     rw add-one (sym (ap (λ (l : List ℕ). getD l place 0) (sym (r .is)) ∙ sum-taken 0 place gs k ∙ zero-add (sum (take (suc place) gs)))) in
-    rw (total-taken (look p body n) gs i (place + 1) (omega arith))
+    rw (through-all p body n place gs k (λ t m. i t (omega arith)))
     (within-given (sum (take (place + 1) gs)) (omega (arith, r .below place)) ∙ ap (λ (k : ℕ). given k) x)
 
-look-runs : (p q : Plan) (body : List ℕ) (n place k : ℕ) (xs vs ls : List ℕ) → runHeader n body ≡ true → wordAt body 0 ≡ k → Unrolled n vs ls xs
+look-runs : (p q : Plan) (body : List ℕ) (n place k : ℕ) (xs vs ls : List ℕ) → runHeader n body ≡ given tt → wordAt body 0 ≡ k → Unrolled n vs ls xs
     → length ls ≡ k → place < length xs
     → ((i : ℕ) → i < length vs → look p (valuesBody body) k i ≡ given (getD vs i 0))
     → ((i : ℕ) → i < length ls → look q (lengthsBody body) k i ≡ given (getD ls i 0))

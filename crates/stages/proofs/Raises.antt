@@ -7,7 +7,7 @@ use native.Mathlib.Omega.{arith}
 use lib.ListN.{length, getD, take}
 use lib.Seq.{sets, take-all, length-take-le, getD-take}
 use borrow.Author.Tests.{eq-eqb, ne-eqb}
-use Rattle.meaning.specs.Limits.{fault}
+use Rattle.meaning.specs.Limits.{broken}
 use Rattle.meaning.specs.Places.{part, Got}
 use Rattle.meaning.specs.Stages.{least, sumsFrom, small, raised, summed}
 use Rattle.meaning.specs.declared.Reading.the-variants.{Whole, Refused}
@@ -38,11 +38,11 @@ module _ {from n : ℕ} {w w₁ : List ℕ} {r : ℕ} (room : from + n ≤ lengt
     sums-long : length (sumsFrom 0 (part w from n)) ≡ n
     sums-long = scan-length sumsFrom _ _ sums-scan 0 (part w from n) ∙ part-length w from n room
 
-    pub sum-over : r < n → Got (summed (part w from n)) from w w₁ (Refused fault)
+    pub sum-over : r < n → Got (summed (part w from n)) from w w₁ (Refused broken)
     unfolding summed
     sum-over h =
         let large = one-large (sumsFrom 0 (part w from n)) (omega (arith, so .many, sums-long)) in
-        got-refused _ from w w₁ fault (rw large) (stored-kept so)
+        got-refused _ from w w₁ broken (rw large) (stored-kept so)
 
     pub sum-whole : n ≤ r → Got (summed (part w from n)) from w w₁ (Whole n)
     unfolding summed
@@ -54,11 +54,11 @@ module _ {from n : ℕ} {w w₁ : List ℕ} {r : ℕ} (room : from + n ≤ lengt
     raised-long : length (raisedBy m (part w from n)) ≡ n
     raised-long = scan-length raisedBy _ _ raise-scan m (part w from n) ∙ part-length w from n room
 
-    pub raise-over : r < n → Got (raised m (part w from n)) from w w₁ (Refused fault)
+    pub raise-over : r < n → Got (raised m (part w from n)) from w w₁ (Refused broken)
     unfolding raised
     raise-over h =
         let large = one-large (raisedBy m (part w from n)) (omega (arith, so .many, raised-long)) in
-        got-refused _ from w w₁ fault (rw large) (stored-kept so)
+        got-refused _ from w w₁ broken (rw large) (stored-kept so)
 
     -- every sum is in work, and l is the least of them
     module _ (h : n ≤ r) {l : ℕ} (is : l ≡ least (part w₁ from n)) where
@@ -79,7 +79,7 @@ module _ {from n : ℕ} {w w₁ : List ℕ} {r : ℕ} (room : from + n ≤ lengt
           raised-long room
           (all-stored .1)
 
-      pub raise-low : (l ≡ m → ⊥) → Got (raised m (part w from n)) from w w₁ (Refused fault)
+      pub raise-low : (l ≡ m → ⊥) → Got (raised m (part w from n)) from w w₁ (Refused broken)
       unfolding raised
       raise-low q =
-          got-refused _ from w w₁ fault (rw (all-stored .0, ne-eqb (least (raisedBy m (part w from n))) m (λ z. q (lowest ∙ z)))) (stored-kept so)
+          got-refused _ from w w₁ broken (rw (all-stored .0, ne-eqb (least (raisedBy m (part w from n))) m (λ z. q (lowest ∙ z)))) (stored-kept so)

@@ -8,7 +8,7 @@ use lib.Dec.{eqb}
 use lib.ListN.{getD, List·getD-map}
 use borrow.Author.Tests.{eq-eqb, eqb-true}
 use Rattle.meaning.specs.Answer.{given}
-use Rattle.meaning.specs.Limits.{fault, numberLimit}
+use Rattle.meaning.specs.Limits.{broken, numberLimit}
 use Rattle.meaning.specs.Lists.{rises}
 use Rattle.meaning.specs.Places.{Below}
 use Rattle.meaning.specs.Stages.{leastOf, least, small, raised}
@@ -74,7 +74,7 @@ pub record Raised (m : ℕ) (ys xs : List ℕ) : Type 0 where
 pub raised-is : (m : ℕ) (ys xs : List ℕ) → raised m ys ≡ given xs → Raised m ys xs
 unfolding raised
 raised-is m ys xs e =
-    let (s, e₁) = need-given (small (raisedBy m ys)) fault _ xs e in
-    let (t, e₂) = need-given (eqb (least (raisedBy m ys)) m) fault _ xs e₁ in
+    let (s, e₁) = need-given (small (raisedBy m ys)) broken _ xs e in
+    let (t, e₂) = need-given (eqb (least (raisedBy m ys)) m) broken _ xs e₁ in
     let is : raisedBy m ys ≡ xs = cc in
     record { is = is; lowest = ap least (sym is) ∙ eqb-true (least (raisedBy m ys)) m t; below = small-below xs (ap small (sym is) ∙ s) }

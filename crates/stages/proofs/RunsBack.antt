@@ -9,7 +9,7 @@ use lib.Dec.{leb, eqb}
 use lib.ListN.{length, replicate, length-append, length-replicate}
 use borrow.Author.Tests.{eqb-true, eqb-false, leb-true, not-true}
 use Rattle.meaning.specs.Answer.{given}
-use Rattle.meaning.specs.Limits.{fault}
+use Rattle.meaning.specs.Limits.{broken}
 use Rattle.meaning.specs.Lists.{all, sum, neighbours, differ}
 use Rattle.meaning.specs.Places.{Below}
 use Rattle.meaning.specs.Stages.{valuesAfter, lengthsAfter, runValues, runLengths, unroll, unrolled}
@@ -112,7 +112,7 @@ pub record Unrolled (n : ℕ) (vs ls xs : List ℕ) : Type 0 where
 pub unrolled-is : (n : ℕ) (vs ls xs : List ℕ) → length vs ≡ length ls → unrolled n vs ls ≡ given xs → Unrolled n vs ls xs
 unfolding unrolled
 unrolled-is n vs ls xs p e =
-    let (s, e₁) = need-given (all (leb 1) ls) fault _ xs e in
-    let (t, e₂) = need-given (eqb (sum ls) n) fault _ xs e₁ in
-    let (d, e₃) = need-given (differ vs) fault _ xs e₂ in
+    let (s, e₁) = need-given (all (leb 1) ls) broken _ xs e in
+    let (t, e₂) = need-given (eqb (sum ls) n) broken _ xs e₁ in
+    let (d, e₃) = need-given (differ vs) broken _ xs e₂ in
     record { is = cc; maximal = record { paired = p; some = s; apart = d }; total = eqb-true (sum ls) n t }

@@ -7,7 +7,7 @@ use native.Mathlib.Nat.{add-zero, sub-zero}
 use native.Mathlib.Omega.{arith}
 use lib.ListN.{getD}
 use Rattle.meaning.specs.Answer.{Answer, given}
-use Rattle.meaning.specs.Limits.{fault}
+use Rattle.meaning.specs.Limits.{broken}
 use Rattle.meaning.specs.Stages.{seek}
 use Rattle.stages.specs.Runs.{runFits}
 use Rattle.stages.specs.Seeks.{Seeks}
@@ -40,7 +40,7 @@ module _ {lengths : List ℕ} {count n place done end j : ℕ} (s : Seeking leng
       }
 
   module _ (h : j < count) where
-    pub seeking-breaks : runFits n end (getD lengths j 0) ≡ false → Seeks lengths count n place done (sought.Refused fault)
+    pub seeking-breaks : runFits n end (getD lengths j 0) ≡ false → Seeks lengths count n place done (sought.Refused broken)
     seeking-breaks f =
         record {
           told = λ lengthAt k m g b. s .so lengthAt k m g b ∙ seek-breaks lengthAt n place (k - j) (m + j) end (omega arith) (getD lengths j 0) (g j h) f;

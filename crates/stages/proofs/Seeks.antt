@@ -10,7 +10,7 @@ use lib.ListN.{length, getD, replicate, length-replicate, List·getD-append, get
 use lib.Seq.{getD-append-add}
 use borrow.Author.Tests.{le-leb, lt-ltb, le-ltb, leb-true}
 use Rattle.meaning.specs.Answer.{Answer, given, refused, bind, need}
-use Rattle.meaning.specs.Limits.{fault}
+use Rattle.meaning.specs.Limits.{broken}
 use Rattle.meaning.specs.Lists.{all, sum}
 use Rattle.meaning.specs.Stages.{unroll, seek}
 use Rattle.meaning.proofs.Answers.{not-given}
@@ -20,7 +20,7 @@ use Rattle.stages.proofs.Unrolls.{fits-so, so-fits}
 
 -- ---- run j, of k that are left, before which s numbers stand
 module _ (at : ℕ → Answer ℕ) (n place k j s : ℕ) where
-  pub seek-none : k ≡ 0 → seek at n place k j s ≡ refused fault
+  pub seek-none : k ≡ 0 → seek at n place k j s ≡ refused broken
   unfolding seek
   seek-none e = rw e
 
@@ -33,12 +33,12 @@ module _ (at : ℕ → Answer ℕ) (n place k j s : ℕ) where
     seek-stops z h = ap (λ (i : ℕ). seek at n place i j s) one-left ∙ rw h
 
     module _ (l : ℕ) (here : at j ≡ given l) where
-      pub seek-breaks : runFits n s l ≡ false → seek at n place k j s ≡ refused fault
+      pub seek-breaks : runFits n s l ≡ false → seek at n place k j s ≡ refused broken
       unfolding seek runFits
       seek-breaks f = ap (λ (i : ℕ). seek at n place i j s) one-left ∙ rw here (go (leb 1 l) (leb (s + l) n) f)
         where
           go : (a b : Bool) → a && b ≡ false
-              → need a fault (need b fault (cond (ltb place (s + l)) (given j) (seek at n place (k - 1) (j + 1) (s + l)))) ≡ refused fault
+              → need a broken (need b broken (cond (ltb place (s + l)) (given j) (seek at n place (k - 1) (j + 1) (s + l)))) ≡ refused broken
           go true true f = absurd (let z : _≡_ {A = ℕ} 0 1 = cc in omega arith)
           go true false f = cc
           go false b f = cc
@@ -127,18 +127,18 @@ finds at n place (v ∷ vs) (l ∷ ls) j s p a f o i h =
 -- ---- the run found is one of those sought
 pub seek-below : (at : ℕ → Answer ℕ) (n place k j s r : ℕ) → seek at n place k j s ≡ given r → r < j + k
 unfolding seek
-seek-below at n place zero j s r e = absurd (not-given fault r e)
+seek-below at n place zero j s r e = absurd (not-given broken r e)
 seek-below at n place (suc k) j s r e = go (λ l h. seek-below at n place k (j + 1) (s + l) r h) (at j) e
   where
     found : ((l : ℕ) → seek at n place k (j + 1) (s + l) ≡ given r → r < j + 1 + k) → (l : ℕ) (a b c : Bool)
-        → need a fault (need b fault (cond c (given j) (seek at n place k (j + 1) (s + l)))) ≡ given r → r < j + suc k
+        → need a broken (need b broken (cond c (given j) (seek at n place k (j + 1) (s + l)))) ≡ given r → r < j + suc k
     found ih l true true true e = let h : j ≡ r = cc in omega arith
     found ih l true true false e = omega (arith, ih l e)
-    found ih l true false c e = absurd (not-given fault r e)
-    found ih l false b c e = absurd (not-given fault r e)
+    found ih l true false c e = absurd (not-given broken r e)
+    found ih l false b c e = absurd (not-given broken r e)
 
     go : ((l : ℕ) → seek at n place k (j + 1) (s + l) ≡ given r → r < j + 1 + k) → (a : Answer ℕ)
-        → bind a (λ l. need (leb 1 l) fault (need (leb (s + l) n) fault (cond (ltb place (s + l)) (given j) (seek at n place k (j + 1) (s + l))))) ≡ given r
+        → bind a (λ l. need (leb 1 l) broken (need (leb (s + l) n) broken (cond (ltb place (s + l)) (given j) (seek at n place k (j + 1) (s + l))))) ≡ given r
         → r < j + suc k
     go ih (given l) e = found ih l (leb 1 l) (leb (s + l) n) (ltb place (s + l)) e
     go ih (refused z) e = absurd (not-given z r e)

@@ -9,7 +9,7 @@ use lib.Dec.{leb, eqb}
 use lib.ListN.{length, getD, take, drop, set, replicate, length-set, length-take, length-replicate, replicate-append-replicate, take-append-drop}
 use lib.Seq.{sets, length-sets, length-take-le, take-all, take-at, take-suc, take-nil, take-append-add, drop-cons, getD-take}
 use borrow.Author.Tests.{eq-eqb, ne-eqb, le-leb, lt-leb, leb-true, leb-false}
-use Rattle.meaning.specs.Limits.{fault}
+use Rattle.meaning.specs.Limits.{broken}
 use Rattle.meaning.specs.Lists.{all, sum, differ}
 use Rattle.meaning.specs.Places.{part, Got}
 use Rattle.meaning.specs.Stages.{unroll, unrolled}
@@ -20,7 +20,7 @@ use Rattle.leaves.proofs.Joined.{sum-append}
 use Rattle.leaves.proofs.Parts.{part-length}
 use Rattle.stages.specs.Runs.{runFits, Laying, Spread}
 use Rattle.stages.specs.declared.Laid.{Laid}
-use Rattle.stages.proofs.Gots.{got-refused, got-stored, need-fault}
+use Rattle.stages.proofs.Gots.{got-refused, got-stored, need-broken}
 use Rattle.stages.proofs.Parts.{part-get, stored-get}
 use Rattle.stages.proofs.RunsBack.{unroll-length}
 
@@ -256,10 +256,10 @@ module _ (k : ℕ) {n from : ℕ} {w w₁ : List ℕ} {r : Laid} (room : from + 
       let over : n < r .numbers + l = by-order (r .numbers) n (λ k. not-fits n (r .numbers) l (so .stops k h) one) (λ k. omega arith) in
       omega (arith, sum-part lengths (r .runs) h, so .laid .total)
 
-  pub unrolled-left : r .runs < k → Got (unrolled n values lengths) from w w₁ (Refused fault)
+  pub unrolled-left : r .runs < k → Got (unrolled n values lengths) from w w₁ (Refused broken)
   unfolding unrolled
   unrolled-left h =
-      got-refused _ from w w₁ fault
+      got-refused _ from w w₁ broken
       (by-test (all (leb 1) lengths) (λ t. rw (t, ne-eqb (sum lengths) n (λ q. omega (arith, left-over (omega (arith, many-lengths)) t)))) (λ t. rw t))
       (laid-kept (so .laid))
 
@@ -267,11 +267,11 @@ module _ (k : ℕ) {n from : ℕ} {w w₁ : List ℕ} {r : Laid} (room : from + 
     all-lengths : take (r .runs) lengths ≡ lengths
     all-lengths = take-all (r .runs) lengths (omega (arith, many-lengths))
 
-    pub unrolled-short : r .numbers < n → Got (unrolled n values lengths) from w w₁ (Refused fault)
+    pub unrolled-short : r .numbers < n → Got (unrolled n values lengths) from w w₁ (Refused broken)
     unfolding unrolled
     unrolled-short l =
-        got-refused _ from w w₁ fault
-        (need-fault (all (leb 1) lengths) _ (rw (ne-eqb (sum lengths) n (λ q. omega (arith, so .laid .total, ap sum all-lengths)))))
+        got-refused _ from w w₁ broken
+        (need-broken (all (leb 1) lengths) _ (rw (ne-eqb (sum lengths) n (λ q. omega (arith, so .laid .total, ap sum all-lengths)))))
         (laid-kept (so .laid))
 
     pub unrolled-whole : n ≤ r .numbers → differ values ≡ true → Got (unrolled n values lengths) from w w₁ (Whole n)
@@ -289,7 +289,7 @@ module _ (k : ℕ) {n from : ℕ} {w w₁ : List ℕ} {r : Laid} (room : from + 
         (so .laid .here ∙ ap (sets w from) whole)
 
 -- the values' neighbours are not all apart
-pub unrolled-same : (vs ls : List ℕ) (n from : ℕ) (w : List ℕ) → differ vs ≡ false → Got (unrolled n vs ls) from w w (Refused fault)
+pub unrolled-same : (vs ls : List ℕ) (n from : ℕ) (w : List ℕ) → differ vs ≡ false → Got (unrolled n vs ls) from w w (Refused broken)
 unfolding unrolled
 unrolled-same vs ls n from w e =
-    got-refused _ from w w fault (need-fault (all (leb 1) ls) _ (need-fault (eqb (sum ls) n) _ (rw e))) refl
+    got-refused _ from w w broken (need-broken (all (leb 1) ls) _ (need-broken (eqb (sum ls) n) _ (rw e))) refl

@@ -6,7 +6,7 @@ pub use header::header_of;
 use leaves::lesser;
 use leaves::long;
 use leaves::whole;
-use meaning::FAULT;
+use meaning::BROKEN;
 use meaning::FIRST_EDITION;
 use meaning::Place;
 use meaning::RISING;
@@ -318,7 +318,7 @@ pub fn seek_in(lengths: &[u32], count: usize, n: usize, place: Place, done: Plac
     while j < count {
         let length = lengths[j];
         if !run_fits(n, end, length) {
-            return Sought::Refused(FAULT);
+            return Sought::Refused(BROKEN);
         }
         end += whole(length);
         if goal < end {
@@ -373,12 +373,12 @@ pub fn raise(work: &mut [u32], from: Place, n: usize, m: u32) -> Reading
     ensures { λ r. ⌜ Got (raised m (part (now (work .entry)) (from .number) n)) (from .number) (now (work .entry)) (now (work .exit)) r ⌝ }
 {
     if raise_firsts(work, from, n, m) < n {
-        return Reading::Refused(FAULT);
+        return Reading::Refused(BROKEN);
     }
     if least_of(work, from, n) == m {
         return Reading::Whole(n);
     }
-    Reading::Refused(FAULT)
+    Reading::Refused(BROKEN)
 }
 
 // Each number of a list becomes its sum with all before.
@@ -387,7 +387,7 @@ pub fn sum_up(work: &mut [u32], from: Place, n: usize) -> Reading
     ensures { λ r. ⌜ Got (summed (part (now (work .entry)) (from .number) n)) (from .number) (now (work .entry)) (now (work .exit)) r ⌝ }
 {
     if sum_firsts(work, from, n) < n {
-        return Reading::Refused(FAULT);
+        return Reading::Refused(BROKEN);
     }
     Reading::Whole(n)
 }
@@ -400,14 +400,14 @@ pub fn unroll_into(work: &mut [u32], from: Place, n: usize, k: usize) -> Reading
 {
     let values = from.number + n;
     if !differs_in(work, Place { number: values }, k) {
-        return Reading::Refused(FAULT);
+        return Reading::Refused(BROKEN);
     }
     let laid = spread(work, from, n, n, k);
     if laid.runs < k {
-        return Reading::Refused(FAULT);
+        return Reading::Refused(BROKEN);
     }
     if laid.numbers < n {
-        return Reading::Refused(FAULT);
+        return Reading::Refused(BROKEN);
     }
     Reading::Whole(n)
 }

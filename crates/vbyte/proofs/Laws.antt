@@ -1,27 +1,31 @@
--- VByte is lawful: what it writes reads back, what it reads is what would be written, and its size is as told. Assumes nothing.
+-- VByte is lawful: what it writes reads back, what it reads is what it would write, bytes added change no whole unit, and its size is as told. Assumes nothing.
 use Prim.Native.Nat.{ℕ, zero, suc, _+_, _-_, _*_, _≤_}
 use mathlib.Core.Path.{_≡_, refl, sym, ap, _∙_, subst}
-use mathlib.Core.Bool.{true, not}
+use mathlib.Core.Bool.{true, not, cond}
 use mathlib.Core.List.{List, [], _∷_, _++_}
 use native.Mathlib.Omega.{arith}
 use lib.Dec.{ltb, leb, eqb}
 use lib.ListN.{length, drop, length-append, length-drop, drop-of-length-le}
-use lib.Seq.{drop-append-seam, drop-drop}
-use borrow.Author.Tests.{eq-eqb, eqb-true}
-use Rattle.meaning.specs.Answer.{given}
+use lib.Seq.{drop-append-seam, drop-append-le, drop-drop}
+use borrow.Author.Tests.{eq-eqb, eqb-true, le-leb}
+use Rattle.meaning.specs.Answer.{Answer, given, bind, need}
 use Rattle.meaning.specs.Codes.{codeVByte, readCode, always, toLast}
-use Rattle.meaning.specs.Limits.{numberLimit}
+use Rattle.meaning.specs.Limits.{broken, numberLimit}
 use Rattle.meaning.specs.Lists.{joined}
 use Rattle.meaning.specs.Places.{Below}
 use Rattle.meaning.specs.Positions.{atByte}
 use Rattle.meaning.specs.VByte.{vbyte, laterIn, vbyteIn, unitVByte}
 use Rattle.meaning.specs.declared.Position.{Position}
-use Rattle.meaning.proofs.Answers.{Faulty, bind-given, bind-faulty, need-faulty, cond-faulty}
+use Rattle.meaning.proofs.Answers.{bind-given}
 use Rattle.meaning.proofs.Bounds.{below-nil, below-cons, below-drop, below-append}
-use Rattle.meaning.proofs.Codes.{spare-always}
+use Rattle.meaning.proofs.Codes.{spare-always, byteInside, first-lasts, left-over}
+use Rattle.meaning.proofs.Lasting.{Lasts, lasts-given, lasts-rule, lasts-bind}
+use Rattle.meaning.proofs.Lasting.Lasts.{cut}
 use Rattle.meaning.proofs.Lawful.{Lawful, Read}
+use Rattle.meaning.proofs.Tests.{by-order, by-test}
 use Rattle.meaning.proofs.Units.{Good, Whole, read-many, read-written, read-holds}
 use Rattle.vbyte.proofs.Sevens.{number-vbyte, number-back, vbyte-small, vbyte-most}
+use Rattle.vbyte.proofs.Steps.{led}
 
 -- ---- the unit: one number, which is the body's at that offset
 record One (body : List ℕ) (at : ℕ) (u : Position × List ℕ) : Type 0 where
@@ -43,22 +47,43 @@ good body =
       few = λ left p u h e. rw (one body left p u e .is) (omega arith);
     }
 
--- ---- whatever a number is refused by is a fault
-later-faulty : (k : ℕ) (bs : List ℕ) → Faulty (laterIn k bs)
+-- ---- bytes added behind a number: where it is not cut short it is the same, and takes no more bytes than were there
+abbrev Within : List ℕ → ℕ × ℕ → Type 0
+Within bs t = t .1 ≤ length bs
+
+last-lasts : (b : ℕ) (bs : List ℕ)
+    → Lasts (Within (b ∷ bs)) (need (not (eqb b 0)) broken (given (b, 1))) (need (not (eqb b 0)) broken (given (b, 1)))
+last-lasts b bs = lasts-rule (not (eqb b 0)) _ _ (λ h. lasts-given (b, 1) (omega arith))
+
+-- a byte that ends the number by `end`, or one that more follow
+more-lasts : (b : ℕ) (bs : List ℕ) (end m n : Answer (ℕ × ℕ)) → Lasts (Within (b ∷ bs)) end end → Lasts (Within bs) m n
+    → Lasts (Within (b ∷ bs)) (cond (ltb b 128) end (bind m (led b))) (cond (ltb b 128) end (bind n (led b)))
+more-lasts b bs end m n l r =
+    by-test (ltb b 128) (λ e. rw e l)
+    (λ e. rw e (lasts-bind m n (led b) (led b) r (λ t g h. lasts-given (b - 128 + 128 * t .0, 1 + t .1) (omega arith))))
+
+later-lasts : (k : ℕ) (bs more : List ℕ) → Lasts (Within bs) (laterIn k bs) (laterIn k (bs ++ more))
 unfolding laterIn
-later-faulty zero [] = refl
-later-faulty (suc k) [] = refl
-later-faulty zero (b ∷ bs) = need-faulty (leb b 15) _ (need-faulty (not (eqb b 0)) _ tt)
-later-faulty (suc k) (b ∷ bs) = cond-faulty (ltb b 128) _ _ (need-faulty (not (eqb b 0)) _ tt) (bind-faulty (laterIn k bs) _ (later-faulty k bs) (λ t. tt))
+later-lasts k [] more = cut refl
+later-lasts zero (b ∷ bs) more = lasts-rule (leb b 15) _ _ (λ h. last-lasts b bs)
+later-lasts (suc k) (b ∷ bs) more = more-lasts b bs _ (laterIn k bs) (laterIn k (bs ++ more)) (last-lasts b bs) (later-lasts k bs more)
 
-number-faulty : (bs : List ℕ) → Faulty (vbyteIn bs)
+number-lasts : (bs more : List ℕ) → Lasts (Within bs) (vbyteIn bs) (vbyteIn (bs ++ more))
 unfolding vbyteIn
-number-faulty [] = refl
-number-faulty (b ∷ bs) = cond-faulty (ltb b 128) _ _ tt (bind-faulty (laterIn 3 bs) _ (later-faulty 3 bs) (λ t. tt))
+number-lasts [] more = cut refl
+number-lasts (b ∷ bs) more =
+    more-lasts b bs (given (b, 1)) (laterIn 3 bs) (laterIn 3 (bs ++ more)) (lasts-given (b, 1) (omega arith)) (later-lasts 3 bs more)
 
-faulty : (body : List ℕ) (left : ℕ) (p : Position) → Faulty (unitVByte body left p)
-unfolding unitVByte
-faulty body left p = bind-faulty (vbyteIn (drop (p .head .byte) body)) _ (number-faulty (drop (p .head .byte) body)) (λ t. tt)
+units : (body more : List ℕ) (left : ℕ) (p : Position)
+    → Lasts (λ u. byteInside body p ≡ true → byteInside body (u .0) ≡ true) (unitVByte body left p) (unitVByte (body ++ more) left p)
+unfolding unitVByte vbyteIn
+units body more left p =
+    let at = p .head .byte in
+    by-order (length body) at
+    (λ h. cut (rw (drop-of-length-le body {i = at} (omega arith))))
+    (λ h. rw (drop-append-le at body more h)
+    (lasts-bind (vbyteIn (drop at body)) (vbyteIn (drop at body ++ more)) _ _ (number-lasts (drop at body) more)
+    (λ t e l. lasts-given (atByte (at + t .1), t .0 ∷ []) (λ i. le-leb (at + t .1) (length body) (omega (arith, length-drop at body))))))
 
 -- ---- whole bodies: the body holds xs from an offset on, and no more
 record Holds (body : List ℕ) (at : ℕ) (xs : List ℕ) : Type 0 where
@@ -160,8 +185,10 @@ pub lawful : Lawful codeVByte
 lawful =
     record {
       good = λ body b. good body;
-      begins = λ body n. tt;
-      faulty = faulty;
+      inside = byteInside;
+      starts = first-lasts;
+      units = units;
+      over = left-over;
       fresh = spare-always [];
       forth = λ xs few h. forth xs h;
       back = back;

@@ -9,7 +9,7 @@ use lib.Dec.{leb, eqb}
 use lib.ListN.{length, drop}
 use borrow.Author.Tests.{lt-ltb, le-ltb, le-leb, leb-true, ne-eqb, eqb-false, not-true}
 use Rattle.meaning.specs.Answer.{given, need}
-use Rattle.meaning.specs.Limits.{fault, numberLimit}
+use Rattle.meaning.specs.Limits.{broken, numberLimit}
 use Rattle.meaning.specs.Places.{Below}
 use Rattle.meaning.specs.VByte.{sevens, vbyte, laterIn, vbyteIn}
 use Rattle.meaning.proofs.Answers.{bind-given, need-given, not-given}
@@ -70,9 +70,9 @@ abbrev Backs : ℕ → List ℕ → ℕ × ℕ → Type 0
 Backs k s t = (0 < t .0) × Back k s (t .0) (t .1)
 
 -- a last byte is not 0, and is the number
-last-back : (b : ℕ) (t : ℕ × ℕ) → need (not (eqb b 0)) fault (given (b, 1)) ≡ given t → (0 < b) × ((b, 1) ≡ t)
+last-back : (b : ℕ) (t : ℕ × ℕ) → need (not (eqb b 0)) broken (given (b, 1)) ≡ given t → (0 < b) × ((b, 1) ≡ t)
 last-back b t e =
-    let (z, q) = need-given (not (eqb b 0)) fault (given (b, 1)) t e in
+    let (z, q) = need-given (not (eqb b 0)) broken (given (b, 1)) t e in
     let n = eqb-false b 0 (not-true (eqb b 0) z) in
     (omega arith, cc)
 
@@ -80,7 +80,7 @@ later-back : (k : ℕ) (s : List ℕ) (t : ℕ × ℕ) → Below 256 s → later
 unfolding laterIn sevens
 later-back k [] t h e = absurd (not-given _ _ e)
 later-back zero (b ∷ bs) t h e =
-    let (l, e₁) = need-given (leb b 15) fault _ t e in
+    let (l, e₁) = need-given (leb b 15) broken _ t e in
     let (p, is) = last-back b t e₁ in
     let q = leb-true b 15 l in
     subst (Backs 0 (b ∷ bs)) is (p, record { is = refl; small = omega arith; within = omega arith })

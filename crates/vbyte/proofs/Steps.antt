@@ -11,7 +11,7 @@ use lib.ListN.{length, getD, drop, drop-of-length-le}
 use lib.Seq.{drop-cons}
 use borrow.Author.Tests.{lt-ltb, le-ltb, le-leb, lt-leb}
 use Rattle.meaning.specs.Answer.{Answer, given, refused, bind, need}
-use Rattle.meaning.specs.Limits.{fault}
+use Rattle.meaning.specs.Limits.{cutShort, broken}
 use Rattle.meaning.specs.Positions.{atByte}
 use Rattle.meaning.specs.VByte.{laterIn, vbyteIn, unitVByte}
 use Rattle.meaning.specs.declared.Offset.{Offset}
@@ -22,7 +22,7 @@ use Rattle.vbyte.specs.declared.Number.{Number}
 use Rattle.vbyte.specs.declared.Number.the-variants as number
 
 -- a byte before a number and its size, and a number and its size seen from an offset
-abbrev led : ℕ → ℕ × ℕ → Answer (ℕ × ℕ)
+abbrev pub led : ℕ → ℕ × ℕ → Answer (ℕ × ℕ)
 led b t = given (b - 128 + 128 * t .0, 1 + t .1)
 
 abbrev seen : ℕ → ℕ → ℕ → ℕ × ℕ → Answer (ℕ × ℕ)
@@ -44,15 +44,15 @@ led-more (given t) b scale low at next after =
 
 -- a last byte, whose test is made once
 last-seen : (b scale low at : ℕ)
-    → need (not (eqb b 0)) fault (seen scale low at (b, 1)) ≡ bind (need {A = ℕ × ℕ} (not (eqb b 0)) fault (given (b, 1))) (seen scale low at)
+    → need (not (eqb b 0)) broken (seen scale low at (b, 1)) ≡ bind (need {A = ℕ × ℕ} (not (eqb b 0)) broken (given (b, 1))) (seen scale low at)
 last-seen b scale low at = by-test (not (eqb b 0)) (λ e. rw e) (λ e. rw e)
 
 module _ (s : List ℕ) (at : ℕ) where
-  pub number-none : length s ≤ at → refused fault ≡ numberAt s at
+  pub number-none : length s ≤ at → refused cutShort ≡ numberAt s at
   unfolding numberAt vbyteIn
   number-none h = rw (drop-of-length-le s {i = at} h)
 
-  pub later-none : (k scale low : ℕ) → length s ≤ at → refused fault ≡ laterAt k scale low s at
+  pub later-none : (k scale low : ℕ) → length s ≤ at → refused cutShort ≡ laterAt k scale low s at
   unfolding laterAt laterIn
   later-none k scale low h = rw (drop-of-length-le s {i = at} h)
 
@@ -70,7 +70,7 @@ module _ (s : List ℕ) (at : ℕ) where
     number-more h = rw (byte-at, le-ltb b 128 h) (led-first (laterIn 3 (drop next s)) b at next after)
 
     module _ (k scale low : ℕ) where
-      pub later-last : b < 128 → need (not (eqb b 0)) fault (given (low + scale * b, next)) ≡ laterAt (suc k) scale low s at
+      pub later-last : b < 128 → need (not (eqb b 0)) broken (given (low + scale * b, next)) ≡ laterAt (suc k) scale low s at
       unfolding laterAt laterIn
       later-last h = rw (byte-at, lt-ltb b 128 h) (rw after (last-seen b scale low at))
 
@@ -79,11 +79,11 @@ module _ (s : List ℕ) (at : ℕ) where
       later-more h = rw (byte-at, le-ltb b 128 h) (led-more (laterIn k (drop next s)) b scale low at next after)
 
     module _ (scale low : ℕ) where
-      pub later-big : 15 < b → refused fault ≡ laterAt 0 scale low s at
+      pub later-big : 15 < b → refused broken ≡ laterAt 0 scale low s at
       unfolding laterAt laterIn
       later-big h = rw (byte-at, lt-leb b 15 h)
 
-      pub later-fifth : b ≤ 15 → need (not (eqb b 0)) fault (given (low + scale * b, next)) ≡ laterAt 0 scale low s at
+      pub later-fifth : b ≤ 15 → need (not (eqb b 0)) broken (given (low + scale * b, next)) ≡ laterAt 0 scale low s at
       unfolding laterAt laterIn
       later-fifth h = rw (byte-at, le-leb b 15 h) (rw after (last-seen b scale low at))
 

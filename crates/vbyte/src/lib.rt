@@ -4,7 +4,8 @@ use leaves::lesser;
 use leaves::put;
 use leaves::taken;
 use leaves::wide;
-use meaning::FAULT;
+use meaning::BROKEN;
+use meaning::CUT_SHORT;
 use meaning::Offset;
 use meaning::Place;
 use meaning::Position;
@@ -18,7 +19,7 @@ ghost use lib.Dec.{eqb};
 ghost use lib.ListN.{length};
 ghost use Rattle.meaning.specs.Answer.{given, need};
 ghost use Rattle.meaning.specs.Codes.{codeVByte};
-ghost use Rattle.meaning.specs.Limits.{mostBytes, fault};
+ghost use Rattle.meaning.specs.Limits.{mostBytes, broken};
 ghost use Rattle.meaning.specs.Places.{Source, Target, Wrote, Took, UnitIs, part};
 ghost use Rattle.meaning.specs.VByte.{sevens, vbyte};
 ghost use Rattle.vbyte.specs.Numbers.{numberSays, numberAt, laterAt, Ones};
@@ -91,10 +92,10 @@ pub fn write(list: &[u32], from: Place, n: usize, out: &mut [u8], at: Offset) ->
 
 // A number x that ends with a byte b, not its first; b is not 0, or fewer bytes would hold x.
 fn last(b: u32, x: u32, next: Offset) -> Number
-    ensures { λ r. ⌜ numberSays r ≡ need (not (eqb b 0)) fault (given (x, next .byte)) ⌝ }
+    ensures { λ r. ⌜ numberSays r ≡ need (not (eqb b 0)) broken (given (x, next .byte)) ⌝ }
 {
     if b == 0 {
-        return Number::Refused(FAULT);
+        return Number::Refused(BROKEN);
     }
     Number::Read(x, next)
 }
@@ -107,7 +108,7 @@ fn from_fourth(body: &[u8], at: Offset, low: u32) -> Number
     let end = body.len();
     let here = at.byte;
     if end <= here {
-        return Number::Refused(FAULT);
+        return Number::Refused(CUT_SHORT);
     }
     let fourth = wide(body[here]);
     if fourth < 128 {
@@ -115,11 +116,11 @@ fn from_fourth(body: &[u8], at: Offset, low: u32) -> Number
     }
     let low28 = low + 2097152 * (fourth - 128);
     if end <= here + 1 {
-        return Number::Refused(FAULT);
+        return Number::Refused(CUT_SHORT);
     }
     let fifth = wide(body[here + 1]);
     if 15 < fifth {
-        return Number::Refused(FAULT);
+        return Number::Refused(BROKEN);
     }
     last(fifth, low28 + 268435456 * fifth, Offset { byte: here + 2 })
 }
@@ -132,7 +133,7 @@ fn from_second(body: &[u8], at: Offset, low: u32) -> Number
     let end = body.len();
     let here = at.byte;
     if end <= here {
-        return Number::Refused(FAULT);
+        return Number::Refused(CUT_SHORT);
     }
     let second = wide(body[here]);
     if second < 128 {
@@ -140,7 +141,7 @@ fn from_second(body: &[u8], at: Offset, low: u32) -> Number
     }
     let low14 = low + 128 * (second - 128);
     if end <= here + 1 {
-        return Number::Refused(FAULT);
+        return Number::Refused(CUT_SHORT);
     }
     let third = wide(body[here + 1]);
     let next = Offset { byte: here + 2 };
@@ -156,7 +157,7 @@ fn number_at(body: &[u8], at: Offset) -> Number
 {
     let here = at.byte;
     if body.len() <= here {
-        return Number::Refused(FAULT);
+        return Number::Refused(CUT_SHORT);
     }
     let next = Offset { byte: here + 1 };
     let first = wide(body[here]);

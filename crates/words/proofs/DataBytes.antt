@@ -9,16 +9,17 @@ use lib.Count.{leadingZeros, leading-length}
 use lib.Pow.{pow-mono}
 use lib.Dec.{eqb}
 use lib.ListN.{length, getD, take, drop, length-append, length-drop, length-map}
-use lib.Seq.{take-at, drop-at, take-add, length-take-le}
+use lib.Seq.{take-at, drop-at, take-add, length-take-le, take-append-le, drop-append-le}
 use borrow.Author.Tests.{lt-ltb, le-ltb, eq-eqb, eqb-true}
 use Rattle.meaning.specs.Answer.{given}
-use Rattle.meaning.specs.Limits.{fault, numberLimit}
+use Rattle.meaning.specs.Limits.{broken, numberLimit}
 use Rattle.meaning.specs.Lists.{sum, joined}
 use Rattle.meaning.specs.Bytes.{bytesOf, numberOf}
 use Rattle.meaning.specs.DataBytes.{byteLength, fewest, dataBytes, dataIn}
 use Rattle.meaning.specs.Places.{Below, part}
-use Rattle.meaning.proofs.Answers.{Faulty, bind-given, need-given, bind-faulty, need-faulty}
+use Rattle.meaning.proofs.Answers.{bind-given, need-given}
 use Rattle.meaning.proofs.Bounds.{below-nil, below-cons, below-append, below-take, below-drop}
+use Rattle.meaning.proofs.Lasting.{Lasts, lasts-given, lasts-rule, lasts-bind}
 use Rattle.meaning.proofs.Tests.{by-order}
 use Rattle.words.proofs.Bytes.{bytes-length, bytes-small, number-bytes, number-small, bytes-number}
 use Rattle.leaves.proofs.Joined.{joined-append}
@@ -106,7 +107,7 @@ pub data-lengths : (ls bytes xs : List ℕ) → dataIn ls bytes ≡ given xs →
 unfolding dataIn
 data-lengths [] bytes xs e = let is : [] ≡ xs = cc in rw (← is)
 data-lengths (l ∷ ls) bytes xs e =
-    let (t, e₁) = need-given (eqb (byteLength (numberOf (take l bytes))) l) fault _ xs e in
+    let (t, e₁) = need-given (eqb (byteLength (numberOf (take l bytes))) l) broken _ xs e in
     let (ys, ey, e₂) = bind-given (dataIn ls (drop l bytes)) _ xs e₁ in
     let is : numberOf (take l bytes) ∷ ys ≡ xs = cc in
     sym (ap (map byteLength) is) ∙ ap₂ (λ (n : ℕ) (r : List ℕ). n ∷ r) (eqb-true _ l t) (data-lengths ls (drop l bytes) ys ey)
@@ -150,20 +151,24 @@ data-back [] bytes xs h fits e =
     let is : [] ≡ xs = cc in
     subst (DataIs [] bytes) is (record { lengths = refl; is = refl; small = below-nil numberLimit (omega arith) })
 data-back (l ∷ ls) bytes xs h fits e =
-    let (t, e₁) = need-given (eqb (byteLength (numberOf (take l bytes))) l) fault _ xs e in
+    let (t, e₁) = need-given (eqb (byteLength (numberOf (take l bytes))) l) broken _ xs e in
     let (ys, ey, e₂) = bind-given (dataIn ls (drop l bytes)) _ xs e₁ in
     let is : numberOf (take l bytes) ∷ ys ≡ xs = cc in
     subst (DataIs (l ∷ ls) bytes) is
     (number-more l ls bytes ys h (omega arith) (eqb-true _ l t)
     (data-back ls (drop l bytes) ys (below-drop 256 l bytes h) (omega (arith, length-drop l bytes)) ey))
 
--- whatever data is refused by is a fault
-pub data-faulty : (ls bytes : List ℕ) → Faulty (dataIn ls bytes)
-unfolding dataIn
-data-faulty [] bytes = tt
-data-faulty (l ∷ ls) bytes =
-    need-faulty (eqb (byteLength (numberOf (take l bytes))) l) _
-    (bind-faulty (dataIn ls (drop l bytes)) _ (data-faulty ls (drop l bytes)) (λ xs. tt))
+-- data that is there is read the same whatever follows it
+pub data-lasts : (ls bytes more : List ℕ) → sum ls ≤ length bytes → Lasts (λ (xs : List ℕ). Unit {0}) (dataIn ls bytes) (dataIn ls (bytes ++ more))
+unfolding dataIn sum
+data-lasts [] bytes more h = lasts-given [] tt
+data-lasts (l ∷ ls) bytes more h =
+    let first : take l (bytes ++ more) ≡ take l bytes = take-append-le l bytes more (omega arith) in
+    let rest : drop l (bytes ++ more) ≡ drop l bytes ++ more = drop-append-le l bytes more (omega arith) in
+    rw (first, rest)
+    (lasts-rule (eqb (byteLength (numberOf (take l bytes))) l) _ _ (λ t.
+    lasts-bind (dataIn ls (drop l bytes)) (dataIn ls (drop l bytes ++ more)) _ _
+    (data-lasts ls (drop l bytes) more (omega (arith, length-drop l bytes))) (λ xs e u. lasts-given (numberOf (take l bytes) ∷ xs) tt)))
 
 -- ---- by the count of leading zeros: x has m binary digits
 module _ (x : ℕ) (h : x < 2 ^ 32) where

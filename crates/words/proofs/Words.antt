@@ -4,7 +4,7 @@ use mathlib.Core.Path.{_≡_, sym, ap, _∙_}
 use mathlib.Core.List.{List, _++_}
 use native.Mathlib.Omega.{arith}
 use lib.ListN.{length, take, drop, length-append, length-drop, take-append-drop}
-use lib.Seq.{take-at, drop-at, take-take, take-add, drop-drop, length-take-le}
+use lib.Seq.{take-at, drop-at, take-take, take-add, drop-drop, length-take-le, take-append-le, drop-append-le}
 use Rattle.meaning.specs.Bytes.{bytesOf, numberOf, word, wordAt}
 use Rattle.meaning.specs.Limits.{numberLimit}
 use Rattle.meaning.specs.Places.{Below}
@@ -62,3 +62,10 @@ words-number s at h =
     ∙ ap (take 4) (drop-drop 4 at s) in
     let e = number-split 4 (take 8 (drop at s)) in
     rw (← a, ← b) (omega arith)
+
+-- a number that is there is the same whatever follows
+pub word-stays : (body more : List ℕ) (at : ℕ) → at + 4 ≤ length body → wordAt (body ++ more) at ≡ wordAt body at
+unfolding wordAt
+word-stays body more at h =
+    ap (λ (l : List ℕ). numberOf (take 4 l)) (drop-append-le at body more (omega arith))
+    ∙ ap numberOf (take-append-le 4 (drop at body) more (omega (arith, length-drop at body)))

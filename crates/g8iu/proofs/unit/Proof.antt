@@ -1,5 +1,5 @@
 -- `unit` tests the offset and the control byte, then takes the block there into the array (`Standing`). Assumes nothing.
-use Prim.Native.Nat.{_+_}
+use Prim.Native.Nat.{_+_, _≤_}
 use mathlib.Core.Path.{sym, _∙_}
 use native.Mathlib.Omega.{arith}
 use lib.ListN.{length}
@@ -12,16 +12,19 @@ use Rattle.g8iu.proofs.unit.Tie as tie
 start-of : tie.Else2 → tie.Start
 start-of c = search
 
+-- the block lies within the body
+inside : (c : tie.Else1) → c .before .before .before .before .args .at .head .byte + 9 ≤ length (c .before .before .before .before .args .body .now)
+inside c = leb-true _ _ (sym (c .before .has-block .ensures) ∙ not-false _ (c .if1 .left))
+
 -- a block stands there and is allowed
 standing : (c : tie.Else2) → Standing (start-of c .args .body .now) (start-of c .args .left) (start-of c .args .at)
 unfolding start-of
 standing c =
     let tried : tie.After-is-allowed = search in
     let found : tie.Else1 = search in
-    let has : tie.After-has-block = search in
     let known : tie.After-shared-slice-known = search in
     record {
-      inside = leb-true _ _ (sym (has .has-block .ensures) ∙ not-false _ (found .if1 .left));
+      inside = inside found;
       byte = known .shared-slice-known .given (start-of c .args .at .head .byte) .fits;
       allows = sym (tried .is-allowed .ensures) ∙ not-false _ (c .if2 .left);
     }
@@ -35,19 +38,16 @@ returns c =
     (c .refusal .ensures)
 
 shared-slice-read-control : tie.Need-shared-slice-read-control
-shared-slice-read-control c =
-    let found : tie.Else1 = search in
-    let has : tie.After-has-block = search in
-    let start : tie.Start = search in
-    omega (arith, leb-true (start .args .at .head .byte + 9) (length (start .args .body .now)) (sym (has .has-block .ensures) ∙ not-false _ (found .if1 .left)))
+shared-slice-read-control c = let found : tie.Else1 = search in omega (arith, inside found)
 
 returns-2 : tie.Need-returns-2
 returns-2 c =
     let bad : tie.Then2 = search in
     let tried : tie.After-is-allowed = search in
+    let found : tie.Else1 = search in
     let start : tie.Start = search in
-    unit-refused _ (start .args .left) (start .args .at) (unit-barred _ _ _ (sym (tried .is-allowed .ensures) ∙ not-true _ (bad .if2 .taken)))
-    (c .refusal2 .ensures)
+    unit-refused _ (start .args .left) (start .args .at)
+    (unit-barred _ _ _ (inside found) (sym (tried .is-allowed .ensures) ∙ not-true _ (bad .if2 .taken))) (c .refusal2 .ensures)
 
 take-ends-requires : tie.Need-take-ends-requires
 unfolding start-of

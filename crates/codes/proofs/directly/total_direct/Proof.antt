@@ -8,7 +8,7 @@ use Rattle.meaning.specs.Answer.{given}
 use Rattle.meaning.specs.Direct.{lookDirect}
 use Rattle.meaning.specs.Limits.{mostBytes, mostNumbers}
 use Rattle.meaning.specs.Says.{foundSays}
-use Rattle.meaning.specs.Stages.{total}
+use Rattle.codes.specs.Firsts.{total}
 use Rattle.codes.proofs.Totals.{total-none, total-refused, total-one}
 use Rattle.codes.proofs.directly.total_direct.Statement.{statement}
 use Rattle.codes.proofs.directly.total_direct.Tie as tie

@@ -7,7 +7,7 @@ use lib.ListN.{length}
 use Rattle.meaning.specs.Answer.{Answer, given, refused}
 use Rattle.meaning.specs.Codes.{codeOf, lookCode}
 use Rattle.meaning.specs.Limits.{mostNumbers, unitPlaces}
-use Rattle.meaning.specs.Stages.{total}
+use Rattle.codes.specs.Firsts.{total}
 use Rattle.codes.proofs.Lookings.{Looking, looking-start, start-refuses, refuses, passes, looking-on}
 use Rattle.codes.proofs.Numbered.{way-units, look-eight}
 use Rattle.codes.proofs.Stretches.{goes-on, passed-long}

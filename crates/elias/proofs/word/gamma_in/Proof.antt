@@ -1,11 +1,15 @@
 -- `gamma_in` meets its contract: the zeros that are seen are the list's where they matter. Assumes nothing.
 use Prim.Native.Nat.{ℕ, _+_, _*_, _≤_}
 use mathlib.Core.List.{List}
-use mathlib.Core.Path.{_∙_}
+use mathlib.Core.Path.{sym, ap, _∙_}
+use mathlib.Core.Bool.{cond}
 use native.Mathlib.Omega.{arith}
 use lib.Count.{leadingZeros, leading-le}
+use lib.Dec.{ltb}
 use lib.ListN.{length, drop}
+use Rattle.meaning.specs.Answer.{refused}
 use Rattle.meaning.specs.Bits.{bitsOf}
+use Rattle.meaning.specs.Limits.{cutShort, broken}
 use Rattle.elias.proofs.Pack.{bits-left}
 use Rattle.elias.proofs.Seen.{seen-many, seen-short, seen-value, seen-behind, behind-further}
 use borrow.Author.Needs.{needs}
@@ -32,10 +36,14 @@ cast-z c = omega (arith, leading-le 64 (c .peek .result))
 
 returns : tie.Need-returns
 returns c =
+    let many : tie.Then1 = search in
     let looked : tie.After-peek = search in
     let start : tie.Start = search in
     let a = start .args in
-    seen-many (looked .peek .result) (bits start) (omega (arith, looked .peek .ok)) (looked .peek .ensures) (a .zeros) (a .most) (start .pre .2) (c .if1 .taken)
+    let sort = c .sort-of-zeros .ensures ∙ ap (λ (left : ℕ). cond (ltb (a .zeros) left) broken cutShort) (sym (bits-left (a .at .index) (a .body .now))) in
+    ap (λ (e : ℕ). refused e) sort
+    ∙ seen-many (looked .peek .result) (bits start) (omega (arith, looked .peek .ok)) (looked .peek .ensures) (a .zeros) (a .most) (start .pre .2)
+    (many .if1 .taken)
 
 returns-2 : tie.Need-returns-2
 returns-2 c =
@@ -84,16 +92,17 @@ gamma-in-spec =
     (tie.spec
     (λ c κs. search needs)  -- peek-requires
     cast-z
+    (λ c. search needs)  -- mul-left
+    (λ c. search needs)  -- sub-left
+    (λ c κs. search needs)  -- sort-of-zeros-requires
     returns
     (λ c. search needs)  -- mul-size
     (λ c. search needs)  -- add-size
-    (λ c. search needs)  -- mul-left
-    (λ c. search needs)  -- sub-left
     returns-2
     (λ c κs. search needs)  -- top-requires
     (λ c κs. search needs)  -- within-requires
     returns-3
-    (λ c. search needs)  -- add-t13
+    (λ c. search needs)  -- add-t12
     (λ c. search needs)  -- add-take-bits
     (λ c κs. search needs)  -- take-bits-requires
     (λ c κs. search needs)  -- within-requires-2

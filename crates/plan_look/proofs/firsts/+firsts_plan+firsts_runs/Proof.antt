@@ -23,7 +23,7 @@ use Rattle.words.proofs.word_at.Reads as word-at-reads
 use Rattle.judge.proofs.stage.plan_end.Reads as plan-end-reads
 use Rattle.judge.proofs.stage.stage_at.Reads as stage-at-reads
 use Rattle.leaves.proofs.lesser.Reads as lesser-reads
-use Rattle.plan_look.proofs.firsts.cut_at.Reads as cut-at-reads
+use Rattle.plan_look.proofs.firsts.stop_at.Reads as stop-at-reads
 use Rattle.plan_look.proofs.firsts.ended.Reads as ended-reads
 use Rattle.plan_look.proofs.firsts.spread_runs.Reads as spread-runs-reads
 use Rattle.stages.proofs.header_of.Reads as header-of-reads
@@ -66,8 +66,8 @@ firsts-plan-claims t = (
   firsts-plan.Post,
   raise-firsts-reads.Asked,
   raise-firsts-reads.Learnt,
-  cut-at-reads.Asked,
-  cut-at-reads.Learnt,
+  stop-at-reads.Asked,
+  stop-at-reads.Learnt,
   sum-firsts-reads.Asked,
   sum-firsts-reads.Learnt,
   firsts-runs-below t,
@@ -169,7 +169,7 @@ module _ (t : ℕ) where
 
   firsts-plan-returns-4 : In-plan plan.Need-returns-4
   firsts-plan-returns-4 c =
-      let made : In-plan plan.After-cut-at = search in
+      let made : In-plan plan.After-stop-at = search in
       let raised : In-plan plan.After-raise-firsts = search in
       let inner : In-plan plan.After-firsts-plan = search in
       let least : In-plan plan.After-word-at = search in
@@ -183,11 +183,11 @@ module _ (t : ℕ) where
       let few = inner .firsts-plan .ensures .most in
       reference-firsts _ _ _ _ _ _ _ _ _ _ _ _ (is .0) (long .if1 .left) _ (least .word-at .ensures) (inner .firsts-plan .ensures)
       (raised .raise-firsts .ensures)
-      (made .cut-at .ensures) (omega (arith, start .pre .1 .1))
+      (made .stop-at .ensures) (omega (arith, start .pre .1 .1))
 
   firsts-plan-returns-5 : In-plan plan.Need-returns-5
   firsts-plan-returns-5 c =
-      let made : In-plan plan.After-cut-at2 = search in
+      let made : In-plan plan.After-stop-at2 = search in
       let summed : In-plan plan.After-sum-firsts = search in
       let inner : In-plan plan.After-firsts-plan2 = search in
       let arm : In-plan plan.After-next2 = search in
@@ -197,7 +197,7 @@ module _ (t : ℕ) where
       let room = fits-list (start .pre .1 .0) in
       let same = inner .firsts-plan2 .kept .1 .1 .1 .1 .1 .1 .0 in
       let few = inner .firsts-plan2 .ensures .most in
-      differences-firsts _ _ _ _ _ _ _ _ _ _ _ _ (is .0) (inner .firsts-plan2 .ensures) (summed .sum-firsts .ensures) (made .cut-at2 .ensures)
+      differences-firsts _ _ _ _ _ _ _ _ _ _ _ _ (is .0) (inner .firsts-plan2 .ensures) (summed .sum-firsts .ensures) (made .stop-at2 .ensures)
       (omega (arith, start .pre .1 .1))
 
   firsts-plan-returns-6 : In-plan plan.Need-returns-6
@@ -304,11 +304,11 @@ unfolding start-of
     (λ c. search needs)  -- part-firsts-plan-end
     (firsts-plan-firsts-plan-requires t)
     (firsts-plan-raise-firsts-requires t)
-    (λ c κs. search needs)  -- cut-at-requires
+    (λ c κs. search needs)  -- stop-at-requires
     (λ c. search needs)  -- enum-known-next-2
     (firsts-plan-firsts-plan-requires-2 t)
     (firsts-plan-sum-firsts-requires t)
-    (λ c κs. search needs)  -- cut-at-requires-2
+    (λ c κs. search needs)  -- stop-at-requires-2
     (λ c. search needs)  -- enum-known-next-3
     (firsts-plan-firsts-runs-requires t)
     (firsts-plan-returns-2 t)

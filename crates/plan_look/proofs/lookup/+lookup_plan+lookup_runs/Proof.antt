@@ -28,6 +28,8 @@ use Rattle.leaves.proofs.long.Reads as long-reads
 use Rattle.plan_look.proofs.lookup.find_run.Reads as find-run-reads
 use Rattle.plan_look.proofs.lookup.number_of.Reads as number-of-reads
 use Rattle.plan_look.proofs.lookup.total_plan.Reads as total-plan-reads
+use Rattle.plan_look.proofs.lookup.taking_refusal.Reads as taking-refusal-reads
+use Rattle.plan_look.proofs.lookup.first_refusal.Reads as first-refusal-reads
 use Rattle.stages.proofs.header_of.Reads as header-of-reads
 use Rattle.plan_look.proofs.lookup.+lookup_plan+lookup_runs.{statement}
 use Rattle.plan_look.proofs.lookup.+lookup_plan+lookup_runs.Tie.{close}
@@ -68,6 +70,10 @@ lookup-plan-claims t = (
   number-of-reads.Learnt,
   total-plan-reads.Asked,
   total-plan-reads.Learnt,
+  taking-refusal-reads.Asked,
+  taking-refusal-reads.Learnt,
+  first-refusal-reads.Asked,
+  first-refusal-reads.Learnt,
   lookup-runs-below t,
   lookup-runs.Post,
 )
@@ -108,6 +114,14 @@ module _ (t : ℕ) where
 
   lookup-plan-total-plan-requires : In-plan plan.Need-total-plan-requires
   lookup-plan-total-plan-requires c κs =
+      let arm : In-plan plan.After-next2 = search in
+      let staged : In-plan plan.After-stage-at = search in
+      let start : In-plan plan.Start = search in
+      let is = at-differences _ _ _ _ _ (sym (staged .stage-at .ensures) ∙ arm .next2 .given .1) in
+      (start .pre .1 .0, omega (arith, is .1))
+
+  lookup-plan-taking-refusal-requires : In-plan plan.Need-taking-refusal-requires
+  lookup-plan-taking-refusal-requires c κs =
       let arm : In-plan plan.After-next2 = search in
       let staged : In-plan plan.After-stage-at = search in
       let start : In-plan plan.Start = search in
@@ -168,13 +182,16 @@ module _ (t : ℕ) where
 
   lookup-plan-returns-6 : In-plan plan.Need-returns-6
   lookup-plan-returns-6 c =
+      let first : In-plan plan.After-first-refusal = search in
+      let taking : In-plan plan.After-taking-refusal = search in
       let refusal : In-plan plan.After-e2 = search in
       let sum : In-plan plan.After-total-plan = search in
       let arm : In-plan plan.After-next2 = search in
       let staged : In-plan plan.After-stage-at = search in
       let start : In-plan plan.Start = search in
       let is = at-differences _ _ _ _ _ (sym (staged .stage-at .ensures) ∙ arm .next2 .given .1) in
-      differences-refused _ _ _ _ _ (is .0) _ (says-so totalSays (sum .total-plan .ensures) (refusal .e2 .given .1))
+      differences-refused _ _ _ _ _ (is .0) _ _ _ (says-so totalSays (sum .total-plan .ensures) (refusal .e2 .given .1)) (taking .taking-refusal .ensures)
+      (first .first-refusal .ensures)
 
   lookup-plan-returns-7 : In-plan plan.Need-returns-7
   lookup-plan-returns-7 c =
@@ -287,6 +304,8 @@ unfolding start-of
     (λ c. search needs)  -- enum-known-next-2
     (lookup-plan-total-plan-requires t)
     (λ c. search needs)  -- enum-known-e-2
+    (lookup-plan-taking-refusal-requires t)
+    (λ c κs. search needs)  -- first-refusal-requires
     (λ c. search needs)  -- enum-known-sum
     (λ c κs. search needs)  -- number-of-requires-2
     (λ c. search needs)  -- enum-known-next-3

@@ -2,7 +2,7 @@
 use mathlib.Core.Path.{sym}
 use native.Mathlib.Omega.{arith}
 use Rattle.stages.proofs.Looks.{within-given}
-use Rattle.plan_look.proofs.Turns.{within-over}
+use Rattle.stages.proofs.Through.{within-over}
 use borrow.Author.Needs.{needs}
 use Rattle.plan_look.proofs.lookup.number_of.Statement.{statement}
 use Rattle.plan_look.proofs.lookup.number_of.Tie as tie
