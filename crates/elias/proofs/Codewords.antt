@@ -1,16 +1,13 @@
 -- What gamma and delta have in common: a codeword for each v from 1 to 2^32, told apart from whatever follows it. Assumes nothing.
 use mathlib.Core.Path.{_≡_, sym, ap, _∙_}
 use Prim.Native.Nat.{ℕ, _≤_, _<_}
-use native.Mathlib.Omega.{arith}
 use mathlib.Core.List.{List, _++_}
-use borrow.Author.Tests.{le-leb, leb-true}
-use lib.Dec.{leb}
-use lib.ListN.{length, drop, length-append}
+use lib.ListN.{length, drop}
 use lib.Seq.{drop-at}
-use Rattle.meaning.specs.Answer.{Answer, given, need}
-use Rattle.meaning.specs.Limits.{cutShort, numberLimit}
+use Rattle.meaning.specs.Answer.{Answer, given}
+use Rattle.meaning.specs.Limits.{numberLimit}
 use Rattle.meaning.specs.Places.{Below}
-use Rattle.meaning.proofs.Lasting.{Lasts, lasts-there}
+use Rattle.meaning.proofs.Lasting.{Lasts}
 
 -- v was read from k bits at the start of l: they are its codeword
 pub record Back (most : ℕ) (bits : ℕ → List ℕ) (l : List ℕ) (v k : ℕ) : Type 0 where
@@ -35,11 +32,3 @@ pub record Word (m : ℕ) (bits : ℕ → List ℕ) (word : List ℕ → Answer 
 -- a list that begins with some bits goes on after as many as they are
 pub goes-on : (l g r : List ℕ) (k : ℕ) → l ≡ g ++ r → length g ≡ k → l ≡ g ++ drop k l
 goes-on l g r k e n = e ∙ ap (λ (x : List ℕ). g ++ x) (sym (drop-at g r k n) ∙ ap (drop k) (sym e))
-
--- n bits that must be there are still there with bits added
-pub lasts-bits : {A : Type 0} {Such : A → Type 0} (n : ℕ) (l more : List ℕ) (short long : Answer A) → (n ≤ length l → Lasts Such short long)
-    → Lasts Such (need (leb n (length l)) cutShort short) (need (leb n (length (l ++ more))) cutShort long)
-lasts-bits n l more short long h =
-    lasts-there (leb n (length l)) (leb n (length (l ++ more))) short long
-    (λ t. le-leb n (length (l ++ more)) (omega (arith, leb-true n (length l) t, length-append l more)))
-    (λ t. h (leb-true n (length l) t))

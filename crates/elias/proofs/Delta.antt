@@ -15,11 +15,11 @@ use Rattle.meaning.specs.Limits.{cutShort, broken, numberLimit}
 use Rattle.meaning.specs.Places.{Below}
 use Rattle.meaning.proofs.Answers.{bind-given, need-given}
 use Rattle.meaning.proofs.Bounds.{below-append, below-take, below-drop}
-use Rattle.meaning.proofs.Lasting.{Lasts, lasts-given, lasts-rule, lasts-bind}
+use Rattle.meaning.proofs.Lasting.{Lasts, lasts-given, lasts-rule, lasts-bind, lasts-long}
 use Rattle.elias.proofs.Gamma.{gamma-forth, gamma-back, gamma-lasts, gamma-bits, gamma-length}
 use Rattle.elias.proofs.Length.{Long, long-of, long-within, one-again, one-long, one-low}
 use Rattle.elias.proofs.Numbers.{high-length, high-bits}
-use Rattle.elias.proofs.Codewords.{Word, Back, Taken, goes-on, lasts-bits}
+use Rattle.elias.proofs.Codewords.{Word, Back, Taken, goes-on}
 
 -- ---- `restIn` by its tests
 module _ (n : ℕ) (l : List ℕ) where
@@ -35,7 +35,7 @@ module _ (n : ℕ) (l : List ℕ) where
 rest-lasts : (n : ℕ) (l more : List ℕ) → Lasts (λ v. n ≤ length l) (restIn n l) (restIn n (l ++ more))
 unfolding restIn
 rest-lasts n l more =
-    lasts-bits n l more _ _
+    lasts-long n l more _ _
     (λ there. rw (take-append-le n l more there)
     (lasts-rule (leb (numberHigh 1 (take n l)) numberLimit) _ _ (λ o. lasts-given (numberHigh 1 (take n l)) there)))
 

@@ -16,12 +16,12 @@ use Rattle.meaning.specs.Limits.{cutShort, broken, numberLimit}
 use Rattle.meaning.specs.Places.{Below}
 use Rattle.meaning.proofs.Answers.{need-given}
 use Rattle.meaning.proofs.Bounds.{below-append, below-zeros, below-take, below-right}
-use Rattle.meaning.proofs.Lasting.{Lasts, lasts-given, lasts-rule}
+use Rattle.meaning.proofs.Lasting.{Lasts, lasts-given, lasts-rule, lasts-long}
 use Rattle.meaning.proofs.Lasting.Lasts.{cut, wrong}
 use Rattle.meaning.proofs.Tests.{by-order}
 use Rattle.elias.proofs.Length.{Long, long-of, long-within, first-one, one-again, one-long, one-low}
 use Rattle.elias.proofs.Numbers.{high-length, high-bits}
-use Rattle.elias.proofs.Codewords.{Word, Back, Taken, goes-on, lasts-bits}
+use Rattle.elias.proofs.Codewords.{Word, Back, Taken, goes-on}
 use Rattle.elias.proofs.Zeros.{zeros-then, zeros-ended, zeros-added, led}
 
 -- ---- `gammaIn` by its tests
@@ -57,7 +57,7 @@ module _ (z most : ℕ) (l more : List ℕ) where
       let m = zerosFirst l in
       rw (zeros-ended l more h)
       (lasts-rule (leb m z) _ _
-      (λ few. lasts-bits (2 * m + 1) l more _ _
+      (λ few. lasts-long (2 * m + 1) l more _ _
       (λ there. rw (behind-added m l more there)
       (lasts-rule (leb (behind m l) most) _ _ (λ o. lasts-given (behind m l, 2 * m + 1) (omega arith, there))))))
 

@@ -7,8 +7,8 @@ use native.Mathlib.Nat.{mul-suc, mul-le-mul-left, mul-le-mul-right}
 use native.Mathlib.Omega.{arith}
 use borrow.Author.Tests.{lt-ltb, le-leb, ltb-true, leb-true}
 use lib.Dec.{leb, ltb, eqb}
-use lib.ListN.{length, drop, replicate, length-append, length-replicate, drop-of-length-le}
-use lib.Seq.{drop-append-seam, drop-append-le, drop-drop}
+use lib.ListN.{length, drop, replicate, length-append, length-replicate}
+use lib.Seq.{drop-append-seam, drop-drop}
 use Rattle.meaning.specs.Answer.{Answer, given}
 use Rattle.meaning.specs.Bits.{bitsHigh, bitsOf, pack}
 use Rattle.meaning.specs.Codes.{Code, byUnits, codeGamma, codeDelta, readCode, always}
@@ -21,9 +21,9 @@ use Rattle.meaning.specs.declared.Position.{Position}
 use Rattle.meaning.proofs.Answers.{bind-given}
 use Rattle.meaning.proofs.Bounds.{below-nil, below-cons, below-append, below-drop}
 use Rattle.meaning.proofs.Codes.{spare-always}
-use Rattle.meaning.proofs.Lasting.{Lasts, lasts-given, lasts-bind}
+use Rattle.meaning.proofs.Lasting.{Lasts, lasts-given, lasts-bind, drop-longer}
 use Rattle.meaning.proofs.Lawful.{Lawful, Read}
-use Rattle.meaning.proofs.Tests.{by-order, both-true, true-both}
+use Rattle.meaning.proofs.Tests.{both-true, true-both}
 use Rattle.meaning.proofs.Units.{Good, Whole, read-many, read-written, read-holds}
 use Rattle.leaves.proofs.Joined.{joined-append, all-zeros, zeros-all}
 use Rattle.elias.proofs.Delta.{word-delta}
@@ -58,10 +58,8 @@ pub record One (word : List ℕ → Answer (ℕ × ℕ)) (body : List ℕ) (at :
 bits-added : (at : ℕ) (body more : List ℕ) → (r : List ℕ) × (drop at (bitsOf (body ++ more)) ≡ drop at (bitsOf body) ++ r)
 unfolding bitsOf
 bits-added at body more =
-    let all = drop at (bitsOf (body ++ more)) in
-    by-order (length (bitsOf body)) at
-    (λ h. (all, ap (λ (l : List ℕ). l ++ all) (sym (drop-of-length-le (bitsOf body) {i = at} (omega arith)))))
-    (λ h. (bitsOf more, ap (drop at) (joined-append (bitsHigh 8) body more) ∙ drop-append-le at (bitsOf body) (bitsOf more) h))
+    let (r, e) = drop-longer at (bitsOf body) (bitsOf more) in
+    (r, ap (drop at) (joined-append (bitsHigh 8) body more) ∙ e)
 
 -- a codeword that ends there lies within the body
 abbrev inside : List ℕ → Position → Bool

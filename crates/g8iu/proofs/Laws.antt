@@ -7,7 +7,7 @@ use native.Mathlib.Omega.{arith}
 use lib.Dec.{leb, eqb}
 use lib.ListN.{length, getD, take, drop, length-append, length-drop, drop-of-length-le, List·getD-append}
 use lib.Seq.{drop-at, drop-drop, take-append-le, drop-append-le}
-use borrow.Author.Tests.{le-leb, leb-true, eq-eqb, eqb-true, not-true}
+use borrow.Author.Tests.{le-leb, eq-eqb, eqb-true, not-true}
 use Rattle.meaning.specs.Answer.{given}
 use Rattle.meaning.specs.Codes.{codeG8IU, readCode, toLast}
 use Rattle.meaning.specs.Limits.{numberLimit}
@@ -19,7 +19,7 @@ use Rattle.meaning.specs.G8IU.{fits, block, writeG8IU, blockLengths, blockIn, u
 use Rattle.meaning.specs.declared.Position.{Position}
 use Rattle.meaning.proofs.Bounds.{below-nil, below-append, below-left, below-right}
 use Rattle.meaning.proofs.Codes.{byteInside, first-lasts, left-over}
-use Rattle.meaning.proofs.Lasting.{Lasts, lasts-given, lasts-there, lasts-rule, lasts-bind}
+use Rattle.meaning.proofs.Lasting.{Lasts, lasts-given, lasts-long, lasts-rule, lasts-bind}
 use Rattle.meaning.proofs.Lawful.{Lawful, Read}
 use Rattle.meaning.proofs.Units.{Whole, read-many, read-written, read-holds}
 use Rattle.leaves.proofs.Parts.{part-length}
@@ -179,9 +179,7 @@ units : (body more : List ℕ) (left : ℕ) (p : Position)
 unfolding unitG8IU
 units body more left p =
     let at = p .head .byte in
-    lasts-there (leb (at + 9) (length body)) (leb (at + 9) (length (body ++ more))) _ _
-    (λ h. le-leb (at + 9) (length (body ++ more)) (omega (arith, leb-true (at + 9) (length body) h, length-append body more)))
-    (λ h. let within = leb-true (at + 9) (length body) h in
+    lasts-long (at + 9) body more _ _ (λ within.
     let ls = blockLengths (getD body at 0) in
     let bytes = take 8 (drop (at + 1) body) in
     let long : length bytes ≡ 8 = part-length body (at + 1) 8 (omega arith) in
@@ -191,7 +189,7 @@ units body more left p =
       take-append-le 8 (drop (at + 1) body) more (omega (arith, length-drop (at + 1) body)),
     )
     (lasts-bind (blockIn left ls bytes) (blockIn left ls bytes) _ _ (block-lasts left ls bytes (omega (arith, eight-within (getD body at 0))))
-    (λ xs e u. lasts-given (atByte (at + 9), xs) (λ i. h))))
+    (λ xs e u. lasts-given (atByte (at + 9), xs) (λ i. le-leb (at + 9) (length body) within))))
 
 pub lawful : Lawful codeG8IU
 lawful =

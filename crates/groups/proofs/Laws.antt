@@ -8,7 +8,7 @@ use native.Mathlib.Omega.{arith}
 use lib.Dec.{leb}
 use lib.ListN.{length, take, drop, length-append, length-take, length-drop, drop-of-length-le, take-append-drop}
 use lib.Seq.{drop-append-seam, drop-drop, take-add, take-at, drop-at, length-take-le}
-use borrow.Author.Tests.{eq-eqb, eqb-true, leb-true, le-leb}
+use borrow.Author.Tests.{eq-eqb, eqb-true, le-leb}
 use Rattle.meaning.specs.Answer.{given}
 use Rattle.meaning.specs.Codes.{codeBy, codeGroups, codeStream, codeBatches, readCode, always, toLast}
 use Rattle.meaning.specs.DataBytes.{dataBytes}
@@ -21,7 +21,7 @@ use Rattle.meaning.specs.declared.Position.{Position}
 use Rattle.meaning.proofs.Answers.{bind-given, need-given}
 use Rattle.meaning.proofs.Bounds.{below-append}
 use Rattle.meaning.proofs.Codes.{spare-always, past-end, first-lasts, left-over}
-use Rattle.meaning.proofs.Lasting.{Lasts, lasts-given, lasts-there}
+use Rattle.meaning.proofs.Lasting.{Lasts, lasts-given, lasts-long}
 use Rattle.meaning.proofs.Lawful.{Lawful, Read}
 use Rattle.meaning.proofs.Units.{Whole, read-many, read-written, read-holds}
 use Rattle.words.proofs.DataBytes.{data-most, data-small}
@@ -258,8 +258,7 @@ stream-starts : (body more : List ℕ) (n : ℕ)
     → Lasts (λ p. within tail-byte body p ≡ true) (codeStream .start body n) (codeStream .start (body ++ more) n)
 stream-starts body more n =
     let m = groupCount n in
-    lasts-there (leb m (length body)) (leb m (length (body ++ more))) _ _
-    (λ t. le-leb m _ (omega (arith, leb-true m (length body) t, length-append body more))) (λ t. lasts-given (atControl 0 m) t)
+    lasts-long m body more _ _ (λ there. lasts-given (atControl 0 m) (le-leb m (length body) there))
 
 pub lawful-stream : Lawful codeStream
 unfolding unitStream groupCount

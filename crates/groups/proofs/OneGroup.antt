@@ -5,8 +5,8 @@ use mathlib.Core.Path.{_≡_, refl, sym, ap, ap₂, _∙_, subst}
 use mathlib.Core.List.{List, _++_, map}
 use native.Mathlib.Omega.{arith}
 use lib.Dec.{leb, eqb}
-use lib.ListN.{length, take, drop, length-append, length-drop, drop-of-length-le, take-append-drop}
-use lib.Seq.{drop-drop, length-take-le, take-append-le, drop-append-le}
+use lib.ListN.{length, take, drop, length-append, length-drop, take-append-drop}
+use lib.Seq.{drop-drop, length-take-le, take-append-le}
 use borrow.Author.Tests.{le-leb, eq-eqb, leb-true, eqb-true}
 use Rattle.meaning.specs.Answer.{given}
 use Rattle.meaning.specs.Bytes.{numberOf}
@@ -17,8 +17,7 @@ use Rattle.meaning.specs.Lists.{sum}
 use Rattle.meaning.specs.Places.{Below, part}
 use Rattle.meaning.proofs.Answers.{bind-given, need-given}
 use Rattle.meaning.proofs.Bounds.{below-drop, below-take}
-use Rattle.meaning.proofs.Lasting.{Lasts, lasts-given, lasts-there, lasts-rule, lasts-as, lasts-bind}
-use Rattle.meaning.proofs.Tests.{by-order}
+use Rattle.meaning.proofs.Lasting.{Lasts, lasts-given, lasts-long, lasts-rule, lasts-as, lasts-bind, drop-longer}
 use Rattle.words.proofs.DataBytes.{data-length, data-many, data-written, data-back, data-lasts}
 use Rattle.groups.proofs.Controls.{Fields, control-in, control-none, lengths-control, lengths-many}
 use Rattle.groups.proofs.Pieces.{controls-number, controls-back}
@@ -132,17 +131,8 @@ back-at {g} by body k at from t low e =
 group-lasts : (g : Grouping) (k c : ℕ) (bytes more : List ℕ) → Lasts (λ (xs : List ℕ). Unit {0}) (groupIn g k c bytes) (groupIn g k c (bytes ++ more))
 unfolding groupIn
 group-lasts g k c bytes more =
-    let size = sum (lengthsIn g k c) in
-    lasts-there (leb size (length bytes)) (leb size (length (bytes ++ more))) _ _
-    (λ t. le-leb size _ (omega (arith, leb-true size (length bytes) t, length-append bytes more))) (λ t.
-    lasts-rule (eqb (c / 4 ^ k) 0) _ _ (λ unused. data-lasts (lengthsIn g k c) bytes more (leb-true size (length bytes) t)))
-
--- from an offset on too, a body with bytes added begins as it did
-drop-longer : (n : ℕ) (xs more : List ℕ) → (added : List ℕ) × (drop n (xs ++ more) ≡ drop n xs ++ added)
-drop-longer n xs more =
-    by-order (length xs) n
-    (λ past. (drop n (xs ++ more), rw (drop-of-length-le xs {i = n} (omega arith))))
-    (λ within. (more, drop-append-le n xs more within))
+    lasts-long (sum (lengthsIn g k c)) bytes more _ _ (λ there.
+    lasts-rule (eqb (c / 4 ^ k) 0) _ _ (λ unused. data-lasts (lengthsIn g k c) bytes more there))
 
 -- data that begins within the body ends within it
 from-lasts : (g : Grouping) (body more : List ℕ) (k c from : ℕ)
@@ -161,7 +151,7 @@ at-lasts g body more k at from =
     let m = groupCount k in
     let here = drop at body in
     let (added, e) = drop-longer at body more in
-    lasts-there (leb m (length here)) (leb m (length (drop at (body ++ more)))) _ _
-    (λ t. le-leb m _ (omega (arith, leb-true m (length here) t, ap length e, length-append here added))) (λ t.
-    let bytes : take m (drop at (body ++ more)) ≡ take m here = ap (take m) e ∙ take-append-le m here added (leb-true m (length here) t) in
-    lasts-as refl (ap (λ (l : List ℕ). groupFrom g (body ++ more) k (numberOf l) from) bytes) (from-lasts g body more k (numberOf (take m here)) from))
+    rw e
+    (lasts-long m here added _ _ (λ there.
+    lasts-as refl (ap (λ (l : List ℕ). groupFrom g (body ++ more) k (numberOf l) from) (take-append-le m here added there))
+    (from-lasts g body more k (numberOf (take m here)) from)))

@@ -4,6 +4,7 @@ use mathlib.Core.Path.{_≡_, refl}
 use mathlib.Core.Bool.{Bool, true, false, cond}
 use mathlib.Core.List.{List}
 use mathlib.Core.Logic.{_⊎_, inl, inr}
+use lib.ListN.{length}
 use native.Mathlib.Omega.{arith}
 use Rattle.meaning.specs.Answer.{Answer, given, refused, bind, need, number, amount}
 use Rattle.meaning.specs.Limits.{cutShort, broken}
@@ -32,10 +33,13 @@ module _ {A : Type 0} where
   need-refused true e = refl
   need-refused false e = refl
 
--- a list's amount is refused as the list is
+-- what is made of something is refused as that is; so is a list's amount
+pub made-number : {A B : Type 0} (m : Answer A) (f : A → B) → number (bind m (λ a. given (f a))) ≡ number m
+made-number (given a) f = refl
+made-number (refused e) f = refl
+
 pub amount-number : (m : Answer (List ℕ)) → number (amount m) ≡ number m
-amount-number (given xs) = refl
-amount-number (refused e) = refl
+amount-number m = made-number m length
 
 -- the two sorts of a body's faults: 9, and 13
 abbrev pub Sort : ℕ → Type 0

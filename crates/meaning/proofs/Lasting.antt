@@ -1,15 +1,19 @@
 -- Bytes added behind a body: what is not cut short stays as it is. Assumes nothing.
-use Prim.Native.Nat.{ℕ, zero, suc, _-_}
+use Prim.Native.Nat.{ℕ, zero, suc, _-_, _≤_}
 use mathlib.Core.Path.{_≡_, refl}
 use mathlib.Core.Bool.{Bool, true, false}
-use mathlib.Core.List.{List}
+use mathlib.Core.List.{List, _++_}
 use mathlib.Core.Logic.{_⊎_, inl, inr}
-use lib.ListN.{length}
+use native.Mathlib.Omega.{arith}
+use lib.Dec.{leb}
+use lib.ListN.{length, drop, length-append, drop-of-length-le}
+use lib.Seq.{drop-append-le}
+use borrow.Author.Tests.{le-leb, leb-true}
 use Rattle.meaning.specs.Answer.{Answer, given, refused, bind, need}
 use Rattle.meaning.specs.Limits.{cutShort, broken}
 use Rattle.meaning.specs.Units.{readFrom, readUnits}
 use Rattle.meaning.proofs.Answers.{Faulty, a-cut, a-break}
-use Rattle.meaning.proofs.Tests.{by-test}
+use Rattle.meaning.proofs.Tests.{by-order, by-test}
 use Rattle.meaning.proofs.Units.{join}
 
 -- an answer of a body, and the answer of the same with bytes added: what breaks a rule still does, and what is given is given again and is such
@@ -34,6 +38,14 @@ module _ {A : Type 0} {Such : A → Type 0} where
   lasts-there true there m n t l = rw (t refl) (l refl)
   lasts-there false there m n t l = cut refl
 
+  -- n elements that must be there are still there with more behind them
+  pub lasts-long : (n : ℕ) (l more : List ℕ) (short long : Answer A) → (n ≤ length l → Lasts Such short long)
+      → Lasts Such (need (leb n (length l)) cutShort short) (need (leb n (length (l ++ more))) cutShort long)
+  lasts-long n l more short long h =
+      lasts-there (leb n (length l)) (leb n (length (l ++ more))) short long
+      (λ t. le-leb n (length (l ++ more)) (omega (arith, leb-true n (length l) t, length-append l more)))
+      (λ t. h (leb-true n (length l) t))
+
   -- a rule that asks the same of both
   pub lasts-rule : (test : Bool) (m n : Answer A) → (test ≡ true → Lasts Such m n) → Lasts Such (need test broken m) (need test broken n)
   lasts-rule true m n l = l refl
@@ -47,6 +59,13 @@ module _ {A : Type 0} {Such : A → Type 0} where
   lasts-bind m n j k (cut e) h = cut (rw e)
   lasts-bind m n j k (wrong e f) h = wrong (rw e) (rw f)
   lasts-bind m n j k (same b e f s) h = rw (e, f) (h b e s)
+
+-- a list with more behind it begins, from any element on, as it did
+pub drop-longer : (n : ℕ) (xs more : List ℕ) → (added : List ℕ) × (drop n (xs ++ more) ≡ drop n xs ++ added)
+drop-longer n xs more =
+    by-order (length xs) n
+    (λ past. (drop n (xs ++ more), rw (drop-of-length-le xs {i = n} (omega arith))))
+    (λ within. (more, drop-append-le n xs more within))
 
 -- a strict reading that is not cut short is broken by bytes added
 abbrev pub Overrun : {A : Type 0} → Answer A → Answer A → Type 0

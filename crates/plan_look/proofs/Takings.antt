@@ -1,29 +1,25 @@
 -- What the numbers through a place are refused by when they are taken once, stage by stage. Assumes nothing.
 use Prim.Native.Nat.{ℕ, _+_, _-_, _≤_, _<_}
-use mathlib.Core.Path.{_≡_, refl, sym, ap, _∙_}
+use mathlib.Core.Path.{_≡_, sym, ap, _∙_}
 use mathlib.Core.List.{List}
 use native.Mathlib.Omega.{arith}
 use lib.ListN.{length, take, drop}
 use borrow.Author.Tests.{le-leb, lt-leb}
-use Rattle.meaning.specs.Answer.{Answer, given, refused, bind, number}
+use Rattle.meaning.specs.Answer.{Answer, given, refused, number}
 use Rattle.meaning.specs.Bytes.{wordAt}
 use Rattle.meaning.specs.Limits.{cutShort, broken}
 use Rattle.meaning.specs.Plan.{Plan, bad, code, reference, differences, runs, planAt, planSize}
 use Rattle.meaning.specs.Stages.{unroll, valuesBody, numbersTo, seek, look, numbersThrough}
+use Rattle.meaning.proofs.Answers.{made-number}
 use Rattle.codes.specs.Firsts.{total}
 use Rattle.codes.proofs.Totals.{total-to}
 use Rattle.stages.proofs.Headers.{Headed, Headless}
 use Rattle.stages.proofs.Parts.{to-the-end}
 use Rattle.stages.proofs.Through.{lengths-found}
 
--- what is made of a list that is given is refused as the list is
-number-made : {A B : Type 0} (m : Answer A) (f : A → B) → number (bind m (λ a. given (f a))) ≡ number m
-number-made (given a) f = refl
-number-made (refused e) f = refl
-
 -- ---- where each place is by itself
 by-places : (at : ℕ → Answer ℕ) (k : ℕ) → number (total at k) ≡ number (numbersTo at k)
-by-places at k = ap number (total-to at k) ∙ number-made (numbersTo at k) _
+by-places at k = ap number (total-to at k) ∙ made-number (numbersTo at k) _
 
 module _ (p : Plan) (body : List ℕ) (n place : ℕ) where
   pub taking-bad : p ≡ bad → broken ≡ number (numbersThrough p body n place)
@@ -51,7 +47,7 @@ module _ (p : Plan) (body : List ℕ) (n place : ℕ) where
         → t ≡ number (numbersThrough p body n place)
     unfolding numbersThrough
     taking-reference h t told =
-        told ∙ rw (e, le-leb 4 (length body) h, to-the-end body 4) (sym (number-made (numbersThrough q (drop 4 body) n place) _))
+        told ∙ rw (e, le-leb 4 (length body) h, to-the-end body 4) (sym (made-number (numbersThrough q (drop 4 body) n place) _))
 
 -- ---- runs, of which the second inner plan begins where the first ends
 module _ (p : Plan) (l : ℕ) (bytes : List ℕ) (x : ℕ) (body : List ℕ) (n place : ℕ) where
@@ -81,4 +77,4 @@ module _ (p : Plan) (l : ℕ) (bytes : List ℕ) (x : ℕ) (body : List ℕ) (n 
         let told′ = rw (d, h .many) at told in
         let (ls, q) = lengths-found _ n (wordAt body 0) place j s′ in
         told′ ∙ rw (h .fits, s′, q)
-        (sym (number-made (numbersThrough p (valuesBody body) (wordAt body 0) j) (λ (vs : List ℕ). take (place + 1) (unroll vs ls))))
+        (sym (made-number (numbersThrough p (valuesBody body) (wordAt body 0) j) (λ (vs : List ℕ). take (place + 1) (unroll vs ls))))

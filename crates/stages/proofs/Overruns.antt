@@ -16,7 +16,7 @@ use Rattle.meaning.specs.Plan.{Plan, bad, code, reference, differences, runs, p
 use Rattle.meaning.specs.Sheet.{Column, ofKind, readColumn}
 use Rattle.meaning.specs.Stages.{raised, summed, unrolled, runHeader, valuesBody, lengthsBody, read}
 use Rattle.meaning.proofs.Answers.{not-given, Faulty}
-use Rattle.meaning.proofs.Lasting.{Lasts, lasts-given, lasts-there, lasts-rule, Overrun}
+use Rattle.meaning.proofs.Lasting.{Lasts, lasts-given, lasts-there, lasts-long, lasts-rule, Overrun}
 use Rattle.meaning.proofs.Lasting.Lasts.{cut, wrong, same}
 use Rattle.meaning.proofs.Lawful.{Lawful, code-overrun}
 use Rattle.meaning.proofs.Tests.{by-order}
@@ -64,13 +64,12 @@ header-lasts : (n : ℕ) (body more : List ℕ)
     → Lasts (λ (u : Unit {0}). 8 + wordAt body 4 ≤ length body) (runHeader n body) (runHeader n (body ++ more))
 unfolding runHeader
 header-lasts n body more =
-    lasts-there (leb 8 (length body)) (leb 8 (length (body ++ more))) _ _
-    (λ t. le-leb 8 (length (body ++ more)) (omega (arith, leb-true 8 (length body) t, length-append body more)))
-    (λ t. rw (word-stays body more 0 (omega (arith, leb-true 8 (length body) t)), word-stays body more 4 (leb-true 8 (length body) t))
+    lasts-long 8 body more _ _
+    (λ long. rw (word-stays body more 0 (omega arith), word-stays body more 4 long)
     (lasts-rule (leb (wordAt body 0) n) _ _ (λ r.
     lasts-there (leb (wordAt body 4) (length body - 8)) (leb (wordAt body 4) (length (body ++ more) - 8)) _ _
     (λ s. le-leb (wordAt body 4) (length (body ++ more) - 8) (omega (arith, leb-true (wordAt body 4) (length body - 8) s, length-append body more)))
-    (λ s. lasts-given tt (omega (arith, leb-true 8 (length body) t, leb-true (wordAt body 4) (length body - 8) s))))))
+    (λ s. lasts-given tt (omega (arith, leb-true (wordAt body 4) (length body - 8) s))))))
 
 values-stay : (body more : List ℕ) → 8 + wordAt body 4 ≤ length body → valuesBody (body ++ more) ≡ valuesBody body
 values-stay body more h =

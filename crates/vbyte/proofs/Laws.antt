@@ -6,8 +6,8 @@ use mathlib.Core.List.{List, [], _∷_, _++_}
 use native.Mathlib.Omega.{arith}
 use lib.Dec.{ltb, leb, eqb}
 use lib.ListN.{length, drop, length-append, length-drop, drop-of-length-le}
-use lib.Seq.{drop-append-seam, drop-append-le, drop-drop}
-use borrow.Author.Tests.{eq-eqb, eqb-true, le-leb}
+use lib.Seq.{drop-append-seam, drop-drop}
+use borrow.Author.Tests.{eq-eqb, eqb-true, le-leb, leb-true}
 use Rattle.meaning.specs.Answer.{Answer, given, bind, need}
 use Rattle.meaning.specs.Codes.{codeVByte, readCode, always, toLast}
 use Rattle.meaning.specs.Limits.{broken, numberLimit}
@@ -19,10 +19,10 @@ use Rattle.meaning.specs.declared.Position.{Position}
 use Rattle.meaning.proofs.Answers.{bind-given}
 use Rattle.meaning.proofs.Bounds.{below-nil, below-cons, below-drop, below-append}
 use Rattle.meaning.proofs.Codes.{spare-always, byteInside, first-lasts, left-over}
-use Rattle.meaning.proofs.Lasting.{Lasts, lasts-given, lasts-rule, lasts-bind}
+use Rattle.meaning.proofs.Lasting.{Lasts, lasts-given, lasts-rule, lasts-bind, drop-longer}
 use Rattle.meaning.proofs.Lasting.Lasts.{cut}
 use Rattle.meaning.proofs.Lawful.{Lawful, Read}
-use Rattle.meaning.proofs.Tests.{by-order, by-test}
+use Rattle.meaning.proofs.Tests.{by-test}
 use Rattle.meaning.proofs.Units.{Good, Whole, read-many, read-written, read-holds}
 use Rattle.vbyte.proofs.Sevens.{number-vbyte, number-back, vbyte-small, vbyte-most}
 use Rattle.vbyte.proofs.Steps.{led}
@@ -76,14 +76,14 @@ number-lasts (b ∷ bs) more =
 
 units : (body more : List ℕ) (left : ℕ) (p : Position)
     → Lasts (λ u. byteInside body p ≡ true → byteInside body (u .0) ≡ true) (unitVByte body left p) (unitVByte (body ++ more) left p)
-unfolding unitVByte vbyteIn
+unfolding unitVByte
 units body more left p =
     let at = p .head .byte in
-    by-order (length body) at
-    (λ h. cut (rw (drop-of-length-le body {i = at} (omega arith))))
-    (λ h. rw (drop-append-le at body more h)
-    (lasts-bind (vbyteIn (drop at body)) (vbyteIn (drop at body ++ more)) _ _ (number-lasts (drop at body) more)
-    (λ t e l. lasts-given (atByte (at + t .1), t .0 ∷ []) (λ i. le-leb (at + t .1) (length body) (omega (arith, length-drop at body))))))
+    let (added, e) = drop-longer at body more in
+    rw e
+    (lasts-bind (vbyteIn (drop at body)) (vbyteIn (drop at body ++ added)) _ _ (number-lasts (drop at body) added)
+    (λ t g l. lasts-given (atByte (at + t .1), t .0 ∷ [])
+    (λ i. le-leb (at + t .1) (length body) (omega (arith, length-drop at body, leb-true at (length body) i)))))
 
 -- ---- whole bodies: the body holds xs from an offset on, and no more
 record Holds (body : List ℕ) (at : ℕ) (xs : List ℕ) : Type 0 where
