@@ -1,4 +1,6 @@
 // Rank and select over the bits of a lent slice, lowest bit of each byte first, by whole words of 64 bits; and what code 8 asks of a stretch of bits.
+#![tactic(auto)]
+
 pub mod words_of;
 
 ghost use Rattle.std.specs.Prelude.{◌≡◌, ◌+◌, ◌*◌, ◌<◌, ◌^◌, take, drop};

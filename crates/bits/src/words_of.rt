@@ -13,7 +13,7 @@ use meaning::Offset;
 use words::eight_at;
 
 // The words before the one that holds a one, and how many ones they have.
-#[derive(Drop)]
+#[derive(Clone, Copy)]
 pub struct Passed {
     pub words: usize,
     pub ones: usize,

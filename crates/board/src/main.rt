@@ -1,4 +1,6 @@
 // Counts the board of the sheet on standard input: how many jobs passed, failed and never ended.
+#![tactic(auto)]
+
 use libc::{STDIN_FILENO, STDOUT_FILENO};
 
 fn main() {

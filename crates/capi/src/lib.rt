@@ -1,5 +1,7 @@
 // The C interface, as include/pelluvion.h declares it. Each function calls the proved operation, answers with the refusal's number, 0 where
 // it was accepted, and tells the rest through its last pointers.
+#![tactic(auto)]
+
 ghost use Rattle.std.specs.Prelude.{◌≡◌, length};
 ghost use Rattle.meaning.specs.Answer.{number};
 ghost use Rattle.meaning.specs.Operations.{check as check_of, count_board, look_sheet, read_sheet, write_apart};

@@ -13,14 +13,14 @@ use meaning::{BROKEN, Bit, CUT_SHORT, Found, Offset};
 use words::{byte_length, number_at, word_at};
 
 // The number of data bytes, where the parts' ends fit the body.
-#[derive(Drop)]
+#[derive(Clone, Copy)]
 pub enum Heading {
     Data(usize),
     Refused(u8),
 }
 
 // One number read: its value and the data byte after it, or the refusal.
-#[derive(Drop)]
+#[derive(Clone, Copy)]
 pub enum Next {
     Number(u32, Bit),
     Refused(u8),

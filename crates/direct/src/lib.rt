@@ -1,4 +1,6 @@
 // Code 8, the directly addressed list: a bit for each data byte says where a number ends, and sums over stretches of 512 bits lead to a number directly.
+#![tactic(auto)]
+
 pub mod input;
 pub mod looking;
 pub mod output;

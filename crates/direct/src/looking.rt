@@ -11,7 +11,7 @@ use leaves::lesser;
 use meaning::{BROKEN, Bit, Found, Offset, Place, Selected};
 
 // A stretch, and how many numbers end before it, as the sums say.
-#[derive(Drop)]
+#[derive(Clone, Copy)]
 pub struct Stretch {
     pub number: usize,
     pub ended: usize,

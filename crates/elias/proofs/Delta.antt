@@ -101,7 +101,8 @@ parts-back l r n k v e hn hk b h is o =
     let one = one-long t tb (omega arith) in
     let g = gamma_bits (suc k) in
     let d : delta_bits v ≡ g ++ t =
-    ap delta_bits (sym is) ∙ delta-is (length t) (number_high 1 t) one ∙ ap₂ (λ (i : ℕ) (x : List ℕ). gamma_bits (suc i) ++ x) len (one-low t tb (omega arith)) in
+    ap delta_bits (sym is) ∙ delta-is (length t) (number_high 1 t) one
+    ∙ ap₂ (λ (i : ℕ) (x : List ℕ). gamma_bits (suc i) ++ x) len (one-low t tb (omega arith)) in
     let parts : l ≡ (g ++ t) ++ drop k r = e ∙ ap (λ (x : List ℕ). g ++ x) (sym (take-append-drop k r)) ∙ sym (append_assoc g t (drop k r)) in
     let long : length (g ++ t) ≡ n + k = length-append g t ∙ omega arith in
     record {

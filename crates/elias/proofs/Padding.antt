@@ -78,7 +78,8 @@ padded-from n k i l =
 
 -- eight from a place on
 pub padded-eight : (k : ℕ) (l : List ℕ) → padded 8 (drop k l)
-    ≡ get_or l k 0 ∷ get_or l (k + 1) 0 ∷ get_or l (k + 2) 0 ∷ get_or l (k + 3) 0 ∷ get_or l (k + 4) 0 ∷ get_or l (k + 5) 0 ∷ get_or l (k + 6) 0 ∷ get_or l (k + 7) 0 ∷ []
+    ≡ get_or l k 0 ∷ get_or l (k + 1) 0 ∷ get_or l (k + 2) 0 ∷ get_or l (k + 3) 0 ∷ get_or l (k + 4) 0
+    ∷ get_or l (k + 5) 0 ∷ get_or l (k + 6) 0 ∷ get_or l (k + 7) 0 ∷ []
 unfolding padded
 padded-eight k l =
     let first : padded 8 (drop k l) ≡ get_or l k 0 ∷ padded 7 (drop (k + 1) l) = rw (add-zero k) at (padded-from 7 k 0 l) in

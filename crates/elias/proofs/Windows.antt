@@ -68,7 +68,8 @@ shl-bits i m k w v h =
 -- shifted, the bits from the k-th on, and zeros
 pub shl-drop : (n m k w : ℕ) → n ≡ m + k → bits_high n ((w * 2 ^ k) % 2 ^ n) ≡ drop k (bits_high n w) ++ bits_high k 0
 shl-drop n m k w en =
-    let shifted : bits_high (m + k) ((w * 2 ^ k) % 2 ^ (m + k)) ≡ bits_high m w ++ bits_high k 0 = simp (zero-add, add-zero) at (shl-bits 0 m k w 0 (pow_pos k)) in
+    let shifted : bits_high (m + k) ((w * 2 ^ k) % 2 ^ (m + k)) ≡ bits_high m w ++ bits_high k 0 =
+    simp (zero-add, add-zero) at (shl-bits 0 m k w 0 (pow_pos k)) in
     let ek : k + m ≡ n = omega arith in
     ap (λ (j : ℕ). bits_high j ((w * 2 ^ k) % 2 ^ j)) en
     ∙ shifted

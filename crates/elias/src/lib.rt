@@ -1,4 +1,6 @@
 // Elias gamma and delta, codes 5 and 6: codewords packed highest bit of each byte first, spare bits of the last byte 0.
+#![tactic(auto)]
+
 mod input;
 mod inside;
 mod output;

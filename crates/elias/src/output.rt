@@ -12,7 +12,7 @@ use leaves::put;
 use meaning::Offset;
 
 // The last `count` of `bits` wait for the byte at an offset; what stands above them no longer matters.
-#[derive(Drop)]
+#[derive(Clone, Copy)]
 pub struct Pending {
     pub at: Offset,
     pub bits: u64,

@@ -10,14 +10,14 @@ use crate::input::{peek, take_bits, top};
 use meaning::{BROKEN, Bit, CUT_SHORT};
 
 // The code that codewords are of.
-#[derive(Drop)]
+#[derive(Clone, Copy)]
 pub enum Form {
     Gamma,
     Delta,
 }
 
 // A codeword: the value v and how many bits it takes, or the refusal.
-#[derive(Drop)]
+#[derive(Clone, Copy)]
 pub enum Codeword {
     Value(u64, usize),
     Refused(u8),

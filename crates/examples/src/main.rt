@@ -1,5 +1,7 @@
 // The examples of document 01 and of requests P1, P4 and P5 that are run, and the errors seen in earlier code, each a line with the refusal's number and the
 // numbers read.
+#![tactic(auto)]
+
 use libc::STDOUT_FILENO;
 use meaning::{Found, Judged, Place, Reading, Sized};
 

@@ -92,7 +92,8 @@ same (suc k) l a h =
 module _ {body : List ℕ} {at ends : ℕ} {most least out : List ℕ} {to : ℕ} (asks : Ending body at ends most least out to) {out' : List ℕ} {r : ℕ}
     (is : BegunIs body at to out out' r) where
   -- what was saved before, put back where the block was at fault
-  pub undone : r ≡ 0 → {old out'' : List ℕ} → old ≡ sets (replicate 8 0) 0 (part out to 8) → out'' ≡ sets out' to (part old 0 8) → BlockIs body at to out out'' r
+  pub undone : r ≡ 0 → {old out'' : List ℕ} → old ≡ sets (replicate 8 0) 0 (part out to 8)
+      → out'' ≡ sets out' to (part old 0 8) → BlockIs body at to out out'' r
   undone e {old} s h =
       let n : length (part out to 8) ≡ 8 = part_length out to 8 asks.fits in
       let kept : part old 0 8 ≡ part out to 8 = rw s (rw n at (part-sets (part out to 8) (replicate 8 0) 0 (omega arith))) in

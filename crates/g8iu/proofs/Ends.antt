@@ -31,7 +31,8 @@ abbrev first_test : ℕ → ℕ → Bool
 unfolding lengths_of lengths_by bits_low count_trailing_zeros
 first_test m e =
     cond (eqb e 0) true
-    (leb (first_of e) m && (ltb (e / 2 ^ first_of e) (2 ^ (m - first_of e)) && same (lengths_of m e) (first_of e ∷ lengths_of (m - first_of e) (e / 2 ^ first_of e))))
+    (leb (first_of e) m && (ltb (e / 2 ^ first_of e) (2 ^ (m - first_of e))
+    && same (lengths_of m e) (first_of e ∷ lengths_of (m - first_of e) (e / 2 ^ first_of e))))
 
 tested : (m e : ℕ) → m < 9 → e < 2 ^ m → first_test m e ≡ true
 unfolding first_test lengths_of lengths_by bits_low count_trailing_zeros

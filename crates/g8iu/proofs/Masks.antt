@@ -44,7 +44,9 @@ masked_small d f h =
 few_bytes : (d f : ℕ) → f < 8 → get_or least_of f 0 ≤ bit_and d (get_or most_of f 0) → f ≤ 3
 few_bytes d f h l =
     let t = at_each 8 (λ (k : ℕ). leb k 3 || ltb (get_or most_of k 0) (get_or least_of k 0)) refl f h in
-    by_order 3 f (λ g. absurd (omega (arith, ltb-true (get_or most_of f 0) (get_or least_of f 0) (rw (lt-leb f 3 g) at t), and_le_r d (get_or most_of f 0)))) (λ g. g)
+    by_order 3 f
+    (λ g. absurd (omega (arith, ltb-true (get_or most_of f 0) (get_or least_of f 0) (rw (lt-leb f 3 g) at t), and_le_r d (get_or most_of f 0))))
+    (λ g. g)
 
 masked : (d f : ℕ) → f ≤ 3 → bit_and d (get_or most_of f 0) ≡ d % 2 ^ (8 * (f + 1))
 masked d zero h = and_mask d 8

@@ -1,4 +1,6 @@
 // Code 3, G8IU: blocks of a control byte and 8 data bytes. Bit i is 0 when data byte i ends a number.
+#![tactic(auto)]
+
 ghost use Rattle.std.specs.Prelude.{◌≡◌, ◌-◌, ◌/◌, ◌≤◌, length, take};
 ghost use Rattle.meaning.specs.Answer.{refused};
 ghost use Rattle.meaning.specs.Codes.{code_g8iu};

@@ -51,7 +51,8 @@ module _ (xs : List ℕ) where
     some-part : 0 < length (part xs from left)
     some-part = omega (arith, part_length xs from left inside)
 
-    pub controls-turn : (g : Grouping) (k : ℕ) → k ≡ min 4 left → controls_of g xs from left ≡ control g (part xs from k) ∷ controls_of g xs (from + k) (left - k)
+    pub controls-turn : (g : Grouping) (k : ℕ) → k ≡ min 4 left
+        → controls_of g xs from left ≡ control g (part xs from k) ∷ controls_of g xs (from + k) (left - k)
     controls-turn g k next = let (front, back) = part-piece xs from left 4 k next in controls-next g (part xs from left) some-part ∙ rw (front, back)
 
     pub groups-turn : {g : Grouping} → Fields g → (k : ℕ) → k ≡ min g.most left

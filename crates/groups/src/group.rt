@@ -13,7 +13,7 @@ use meaning::{BROKEN, Bit, CUT_SHORT, Offset, Position, Unit, UnitRead};
 use words::{byte_length, number_at};
 
 // The codes of groups: a group's data stands behind its control bytes (2, and 7 with batches of 16), or apart from them, after all control bytes (4).
-#[derive(Drop)]
+#[derive(Clone, Copy)]
 pub enum Form {
     Fours,
     Stream,

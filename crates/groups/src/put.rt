@@ -66,7 +66,7 @@ pub fn put_controls(list: &[u32], from: Place, n: usize, out: &mut [u8], at: Off
 }
 
 // Where a group's data ends, its fields as codes 2 and 4 have them, and one more than so many fields can be at most.
-#[derive(Drop)]
+#[derive(Clone, Copy)]
 pub struct Fielded {
     pub end: Offset,
     pub fields: usize,

@@ -1,4 +1,6 @@
 // Plans: judged for a kind, and their worst size. A plan of any length and any bytes is answered.
+#![tactic(auto)]
+
 ghost use Rattle.std.specs.Prelude.{◌≡◌, eqb, drop};
 ghost use Rattle.meaning.specs.Answer.{need};
 ghost use Rattle.meaning.specs.Promises.{Judges, Sizes};

@@ -7,7 +7,7 @@ ghost use Rattle.judge.specs.Stage.{stage_at};
 use meaning::{LAST_CODE, Offset};
 
 // What stands at an offset: a stage holds where its first inner plan begins and how many stages that may have.
-#[derive(Drop)]
+#[derive(Clone, Copy)]
 pub enum Stage {
     Bad,
     Code(u8),

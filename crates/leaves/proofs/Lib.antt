@@ -2,4 +2,3 @@
 pub mod Joined
 pub mod Parts
 pub mod Putting
-pub mod Walking

@@ -1,4 +1,6 @@
 // Lists the sheet on standard input: each column's kind, plan, count and size, and its numbers.
+#![tactic(auto)]
+
 use libc::{STDIN_FILENO, STDOUT_FILENO};
 
 fn main() {

@@ -1,4 +1,6 @@
 // The places, offsets and answers in which every crate speaks. What each answer says in document 01's numbers is in specs/Says.antt.
+#![tactic(auto)]
+
 
 // Document 01's limits.
 pub const MOST_COLUMNS: usize = 16;
@@ -56,26 +58,26 @@ pub const BAD_BOARD: u8 = 12;
 pub const BROKEN: u8 = 13;
 
 // A place counts numbers.
-#[derive(Drop)]
+#[derive(Clone, Copy)]
 pub struct Place {
     pub number: usize,
 }
 
 // An offset counts bytes.
-#[derive(Drop)]
+#[derive(Clone, Copy)]
 pub struct Offset {
     pub byte: usize,
 }
 
 // A bit, counted from the first byte on: in gamma and delta highest bit of each byte first, in code 8 and in rank and select lowest first.
-#[derive(Drop)]
+#[derive(Clone, Copy)]
 pub struct Bit {
     pub index: usize,
 }
 
 // Where a unit begins: its first byte, or its control byte; in Stream VByte also its data, the tail; in gamma, delta and code 8 a bit. What a code does
 // not use is 0.
-#[derive(Drop)]
+#[derive(Clone, Copy)]
 pub struct Position {
     pub head: Offset,
     pub tail: Offset,
@@ -83,14 +85,14 @@ pub struct Position {
 }
 
 // Reading one unit: where the next begins and how many numbers this one holds, or the refusal.
-#[derive(Drop)]
+#[derive(Clone, Copy)]
 pub enum Unit {
     Next(Position, usize),
     Refused(u8),
 }
 
 // A unit's answer with its numbers beside it, from the array's first place on; the places after them are 0.
-#[derive(Drop)]
+#[derive(Clone, Copy)]
 pub struct UnitRead {
     pub unit: Unit,
     pub numbers: [u32; 16],
@@ -98,7 +100,7 @@ pub struct UnitRead {
 
 // Units taken one after the other: how many numbers they hold, how many units they are, and where the next unit begins. A next unit may follow them
 // where its first number takes more bytes than the last of them left spare.
-#[derive(Drop)]
+#[derive(Clone, Copy)]
 pub struct Taken {
     pub count: usize,
     pub units: usize,
@@ -107,42 +109,42 @@ pub struct Taken {
 }
 
 // Judging a plan.
-#[derive(Drop)]
+#[derive(Clone, Copy)]
 pub enum Judged {
     Passed,
     Refused(u8),
 }
 
 // A size told: the worst size of a plan, or how many bytes were written.
-#[derive(Drop)]
+#[derive(Clone, Copy)]
 pub enum Sized {
     Bytes(usize),
     Refused(u8),
 }
 
 // Reading a list: how many numbers it has.
-#[derive(Drop)]
+#[derive(Clone, Copy)]
 pub enum Reading {
     Whole(usize),
     Refused(u8),
 }
 
 // Looking one number up.
-#[derive(Drop)]
+#[derive(Clone, Copy)]
 pub enum Found {
     Number(u32),
     Refused(u8),
 }
 
 // Checking a sheet: a refusal names the column at fault.
-#[derive(Drop)]
+#[derive(Clone, Copy)]
 pub enum Checked {
     Passed,
     Refused(u8, usize),
 }
 
 // Counting the board.
-#[derive(Drop)]
+#[derive(Clone, Copy)]
 pub struct Tally {
     pub passed: usize,
     pub failed: usize,
@@ -150,21 +152,21 @@ pub struct Tally {
     pub unended: usize,
 }
 
-#[derive(Drop)]
+#[derive(Clone, Copy)]
 pub enum Counted {
     Tallies(Tally),
     Refused(u8, usize),
 }
 
 // Rank: how many ones stand before a bit.
-#[derive(Drop)]
+#[derive(Clone, Copy)]
 pub enum Ranked {
     Ones(usize),
     Refused(u8),
 }
 
 // Select: the bit of a one.
-#[derive(Drop)]
+#[derive(Clone, Copy)]
 pub enum Selected {
     At(Bit),
     Refused(u8),

@@ -1,5 +1,7 @@
 // The writer of sheets over a lent list of column orders.
 // The list is a slice of structs, so it is taken apart by hand; the writer over plain slices does the work.
+#![tactic(auto)]
+
 ghost use Rattle.std.specs.Prelude.{[], ◌∷◌, map};
 ghost use Rattle.meaning.specs.Promises.{Writes};
 ghost use Rattle.orders.specs.Orders.{order_says};
@@ -12,7 +14,7 @@ mod apart;
 mod gathering;
 
 // A column's order: its kind, its plan (15 zeros mean the default), and how many of the joined numbers are its list.
-#[derive(Drop)]
+#[derive(Clone, Copy)]
 pub struct Order {
     pub kind: u8,
     pub plan: [u8; 15],

@@ -1,4 +1,6 @@
 // Strict reading by a plan: the numbers go to work from a place on, scratch after them; bodies of inner plans are parts of the lent slice.
+#![tactic(auto)]
+
 ghost use Rattle.std.specs.Prelude.{suc, ◌+◌, ◌*◌, ◌≤◌, length};
 ghost use Rattle.meaning.specs.Limits.{most_bytes, most_numbers};
 ghost use Rattle.meaning.specs.Places.{Got};

@@ -1,5 +1,7 @@
 // Writing a list by a plan. The lists live in one slice, work: the list from a place on, scratch after it.
 // Bytes are put where they lie within the output, so a call with an empty output tells the size and writes nothing.
+#![tactic(auto)]
+
 ghost use Rattle.std.specs.Prelude.{◌+◌, ◌*◌, ◌^◌, ◌≤◌, ◌<◌, length, take};
 ghost use Rattle.meaning.specs.Limits.{most_numbers};
 ghost use Rattle.meaning.specs.Places.{part};

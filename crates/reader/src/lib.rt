@@ -1,4 +1,6 @@
 // A reader stands on one column of a lent sheet. The branches are in covered functions; what takes, makes or lends the struct is proved by hand.
+#![tactic(auto)]
+
 ghost use Rattle.std.specs.Prelude.{◌≡◌, min};
 ghost use Rattle.meaning.specs.Answer.{list, number};
 ghost use Rattle.meaning.specs.Limits.{most_numbers};
@@ -19,14 +21,14 @@ pub struct Reader<'a> {
 }
 
 // An answer, and the place of the call after it.
-#[derive(Drop)]
+#[derive(Clone, Copy)]
 struct Looked {
     answer: Found,
     next: Place,
 }
 
 // The answers of the first three calls.
-#[derive(Drop)]
+#[derive(Clone, Copy)]
 pub struct FirstThree {
     pub first: Found,
     pub second: Found,

@@ -1,4 +1,6 @@
 // The operations over a lent sheet: check it, read a column, look one number up, count the board.
+#![tactic(auto)]
+
 ghost use Rattle.std.specs.Prelude.{◌≡◌, length};
 ghost use Rattle.meaning.specs.Answer.{in_turn};
 ghost use Rattle.meaning.specs.Promises.{Checks, Reads, Looks, Counts};

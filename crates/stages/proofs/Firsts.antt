@@ -41,14 +41,14 @@ one-large (x ∷ xs) h = go (one-large xs) (ltb x number_limit) h
     go f true h = f (omega arith)
     go f false h = refl
 
-pub first_small : (xs : List ℕ) (i : ℕ) → i < first_small xs → get_or xs i 0 < number_limit
+pub first-small : (xs : List ℕ) (i : ℕ) → i < first_small xs → get_or xs i 0 < number_limit
 unfolding first_small
-first_small [] i h = absurd (omega arith)
-first_small (x ∷ xs) zero h = by-test (ltb x number_limit) (λ t. ltb-true x number_limit t) (λ t. absurd (none (rw t at h)))
+first-small [] i h = absurd (omega arith)
+first-small (x ∷ xs) zero h = by-test (ltb x number_limit) (λ t. ltb-true x number_limit t) (λ t. absurd (none (rw t at h)))
   where
     none : zero < 0 → ⊥
     none h = omega arith
-first_small (x ∷ xs) (suc i) h = by-test (ltb x number_limit) (λ t. first_small xs i (less (rw t at h))) (λ t. absurd (none (rw t at h)))
+first-small (x ∷ xs) (suc i) h = by-test (ltb x number_limit) (λ t. first-small xs i (less (rw t at h))) (λ t. absurd (none (rw t at h)))
   where
     none : suc i < 0 → ⊥
     none h = omega arith

@@ -109,7 +109,8 @@ module _ (laws : (c : ℕ) → Lawful (code_of c)) where
       (λ xs. need (of_kind c.edition c.kind xs) broken (given xs)) (plan-overrun p c.body b more c.count)
 
   -- what is not cut short is broken by bytes behind it
-  over-broken : (c : Column) (b : ℕ) (more : List ℕ) → (read_column c ≡ refused cut_short → ⊥) → read_column (with_body c (c.body ++ (b ∷ more))) ≡ refused broken
+  over-broken : (c : Column) (b : ℕ) (more : List ℕ) → (read_column c ≡ refused cut_short → ⊥)
+      → read_column (with_body c (c.body ++ (b ∷ more))) ≡ refused broken
   over-broken c b more h = go (column-overrun c b more)
     where
       go : Overrun (read_column c) (read_column (with_body c (c.body ++ (b ∷ more)))) → read_column (with_body c (c.body ++ (b ∷ more))) ≡ refused broken

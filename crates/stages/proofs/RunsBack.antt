@@ -67,7 +67,8 @@ after-unroll v k (u ∷ vs) (l ∷ ls) p s d =
     let (iv, il) = after-unroll u l vs ls (omega arith) b d' in
     (ev ∙ ap (λ (r : List ℕ). v ∷ r) iv, el ∙ ap (λ (r : List ℕ). k ∷ r) il)
 
-first_run : (u l : ℕ) (ys : List ℕ) → 1 ≤ l → (run_values (replicate l u ++ ys) ≡ values_after u ys) × (run_lengths (replicate l u ++ ys) ≡ lengths_after u l ys)
+first_run : (u l : ℕ) (ys : List ℕ) → 1 ≤ l
+    → (run_values (replicate l u ++ ys) ≡ values_after u ys) × (run_lengths (replicate l u ++ ys) ≡ lengths_after u l ys)
 unfolding run_values run_lengths
 first_run u zero ys h = absurd (omega arith)
 first_run u (suc l) ys h =

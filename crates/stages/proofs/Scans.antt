@@ -82,7 +82,8 @@ module _ {F : ℕ → List ℕ → List ℕ} {f g : ℕ → ℕ → ℕ} (is : S
       scanning-turn y e =
           let zs = F (g s (get_or w (from + i) 0)) (drop (i + 1) (part w₀ from n)) in
           let below : i < length all_made = omega (arith, made-long) in
-          let split : get_or all_made i 0 ∷ drop (suc i) all_made ≡ f s (get_or w (from + i) 0) ∷ zs = sym (drop-cons all_made i 0 below) ∙ so.rest ∙ next-made in
+          let split : get_or all_made i 0 ∷ drop (suc i) all_made ≡ f s (get_or w (from + i) 0) ∷ zs =
+          sym (drop-cons all_made i 0 below) ∙ so.rest ∙ next-made in
           let here : get_or all_made i 0 ≡ y = cc in
           let after : drop (suc i) all_made ≡ zs = cc in
           record {

@@ -114,14 +114,14 @@ numbers-gives at i xs h =
     (each.0, λ k l. as-given (each.1 k (omega arith)))
 
 -- ---- reference: every number is raised by m, where the body holds m
-abbrev raised_at : Bool → ℕ → (ℕ → Answer ℕ) → ℕ → Answer ℕ
-raised_at t m at k = need t cut_short (bind (at k) (λ x. within (m + x)))
+abbrev raised_place : Bool → ℕ → (ℕ → Answer ℕ) → ℕ → Answer ℕ
+raised_place t m at k = need t cut_short (bind (at k) (λ x. within (m + x)))
 
 abbrev raised_through : Bool → ℕ → Answer (List ℕ) → Answer (List ℕ)
 raised_through t m through = need t cut_short (bind through (λ xs. given (raised_by m xs)))
 
 reference-refuses : (t : Bool) (m : ℕ) (at : ℕ → Answer ℕ) (i : ℕ) (through : Answer (List ℕ)) → Refuses at i through
-    → Refuses (raised_at t m at) i (raised_through t m through)
+    → Refuses (raised_place t m at) i (raised_through t m through)
 reference-refuses false m at i through inner before e h = refused-too cut_short e h
 reference-refuses true m at i through inner before e h =
     let here = inner (λ k l. let (x, q) = before k l in let (y, r, s) = bind-given (at k) (λ x. within (m + x)) x q in (y, r)) e
@@ -152,14 +152,14 @@ raised-gives m k a xs h (as-given here) =
 raised-gives m k a xs h (too_large here over) = too_large (rw here) (omega (arith, raised-most m (suc k) xs))
 
 reference-gives : (t : Bool) (m : ℕ) (at : ℕ → Answer ℕ) (i : ℕ) (through : Answer (List ℕ)) → Gives at i through
-    → Gives (raised_at t m at) i (raised_through t m through)
+    → Gives (raised_place t m at) i (raised_through t m through)
 reference-gives false m at i through inner ys h = absurd (not-given cut_short ys h)
 reference-gives true m at i through inner ys h =
     let (xs, e, r) = bind-given through (λ xs. given (raised_by m xs)) ys h in
     let is : raised_by m xs ≡ ys = cc in
     let (long, each) = inner xs e in (
       sym (ap length is) ∙ scan-length raised_by _ _ raise-scan m xs ∙ long,
-      λ k l. subst (λ (zs : List ℕ). At (raised_at true m at k) zs k) is (raised-gives m k (at k) xs (omega (arith, long)) (each k l)),
+      λ k l. subst (λ (zs : List ℕ). At (raised_place true m at k) zs k) is (raised-gives m k (at k) xs (omega (arith, long)) (each k l)),
     )
 
 -- ---- runs: a run that was sought and found is the next one, of length l, or one of those behind it

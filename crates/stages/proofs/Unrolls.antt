@@ -163,7 +163,8 @@ module _ {w₀ : List ℕ} {from n goal k : ℕ} {w : List ℕ} {s j : ℕ} (so 
   length_at : j < k → get_or w (from + 2 * n + j) 0 ≡ get_or ls j 0
   length_at h = laid-behind so.laid (from + 2 * n + j) (omega (arith, so.far)) ∙ sym (part-get w₀ (from + 2 * n) k j h)
 
-  pub spreading-stop : (s < goal → j < k → run_fits n s (get_or w (from + 2 * n + j) 0) ≡ false) → Spread vs ls n goal from w₀ w (record { runs = j; numbers = s })
+  pub spreading-stop : (s < goal → j < k → run_fits n s (get_or w (from + 2 * n + j) 0) ≡ false)
+      → Spread vs ls n goal from w₀ w (record { runs = j; numbers = s })
   spreading-stop h =
       record { laid = so.laid; stops = λ a b. let l : j < k = omega (arith, lengths-long) in ap (run_fits n s) (sym (length_at l)) ∙ h a l }
 

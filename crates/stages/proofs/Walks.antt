@@ -24,7 +24,8 @@ pub comparing-start : {test : ℕ → ℕ → Bool} {w : List ℕ} {from n : ℕ
 comparing-start {test} {w} {from} {n} room h = record { room = room; rest = ap (neighbours test) (part-first w from n room h) }
 
 module _ {test : ℕ → ℕ → Bool} {w : List ℕ} {from n v i : ℕ} (so : Comparing test w from n v i) where
-  next-compared : i < n → neighbours test (part w from n) ≡ test v (get_or w (from + i) 0) && neighbours test (get_or w (from + i) 0 ∷ drop (i + 1) (part w from n))
+  next-compared : i < n
+      → neighbours test (part w from n) ≡ test v (get_or w (from + i) 0) && neighbours test (get_or w (from + i) 0 ∷ drop (i + 1) (part w from n))
   unfolding neighbours
   next-compared h = so.rest ∙ ap (λ (l : List ℕ). neighbours test (v ∷ l)) (part_at w from n so.room i h)
 

@@ -7,7 +7,7 @@ use meaning::{BROKEN, CUT_SHORT, Offset};
 use words::word_at;
 
 // How many runs there are and where the values body ends, or the refusal.
-#[derive(Drop)]
+#[derive(Clone, Copy)]
 pub enum Header {
     Runs(usize, Offset),
     Refused(u8),

@@ -1,4 +1,6 @@
 // The work below the stages: lists live in one work slice, and what a stage makes of a list is made behind it or in its place.
+#![tactic(auto)]
+
 mod header;
 
 ghost use Rattle.std.specs.Prelude.{◌≡◌, map, ℕ, ◌+◌, ◌-◌, ◌*◌, ◌^◌, ◌≤◌, ◌<◌, min, length, replicate};
@@ -275,7 +277,7 @@ fn fill(work: &mut [u32], from: Place, n: usize, v: u32)
 }
 
 // How many runs are laid, and how many numbers they hold.
-#[derive(Drop)]
+#[derive(Clone, Copy)]
 pub struct Laid {
     pub runs: usize,
     pub numbers: usize,
@@ -293,7 +295,7 @@ pub fn run_fits(n: usize, done: usize, length: u32) -> bool
 }
 
 // A run sought in some lengths: which of them it is, or how many numbers stand in their runs if it is none of them, or the refusal.
-#[derive(Drop)]
+#[derive(Clone, Copy)]
 pub enum Sought {
     At(Place),
     After(Place),

@@ -1,4 +1,6 @@
 // Writes sheets from lists of orders and steps through their columns, call by call.
+#![tactic(auto)]
+
 use libc::STDOUT_FILENO;
 use meaning::{Found, Sized};
 use orders::Order;

@@ -82,8 +82,8 @@ module _ (sheet : List ℕ) (k : ℕ) (h : k < column_count sheet) where
   pub size_is : (column_at sheet k).size ≡ size_at sheet k
   size_is = ap (λ (c : Column). c.size) column-is
 
-  pub size_in : size_at sheet k ≡ word_at sheet (slot_of sheet k + size_in)
-  size_in = word-drop sheet (slot_of sheet k) size_in
+  pub size-in : size_at sheet k ≡ word_at sheet (slot_of sheet k + size_in)
+  size-in = word-drop sheet (slot_of sheet k) size_in
 
   pub body_is : (column_at sheet k).body ≡ take (size_at sheet k) (drop (body_offset sheet k) sheet)
   body_is = ap (λ (c : Column). c.body) column-is

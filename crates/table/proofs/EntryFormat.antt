@@ -50,8 +50,8 @@ module _ (edition : ℕ) (e : Entry) where
       count-in : word_at bytes count_in ≡ e.count
       count-in = sym (word-drop bytes count_in 0) ∙ ap (λ (t : List ℕ). word_at t 0) past-plan ∙ word_first e.count (word e.size ++ rest) sized.counted
 
-      size_in : word_at bytes size_in ≡ e.size
-      size_in =
+      size-in : word_at bytes size_in ≡ e.size
+      size-in =
           sym (word-drop bytes count_in 4)
           ∙ ap (λ (t : List ℕ). word_at t 4) past-plan
           ∙ word_next e.count (word e.size ++ rest)
@@ -61,7 +61,7 @@ module _ (edition : ℕ) (e : Entry) where
       kind-in = ap (λ (t : List ℕ). get_or t 0 0) flat
 
       pub entry-forth : entry_in edition bytes ≡ e
-      entry-forth = λ i. record { kind = kind-in i; plan = plan-in i; count = count-in i; size = size_in i }
+      entry-forth = λ i. record { kind = kind-in i; plan = plan-in i; count = count-in i; size = size-in i }
 
       pub past-entry : drop (entry_size edition) bytes ≡ rest
       past-entry = drop_at (entry_bytes edition e) rest (entry_size edition) (entry-long sized.planned)

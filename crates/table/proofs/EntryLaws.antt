@@ -15,7 +15,7 @@ use Rattle.meaning.specs.Lists.{all, largest}
 use Rattle.meaning.specs.Sheet.{Column, count_in, size_in, edition_of, column_count, table_size, columns_of, column_at, sound, largest_count}
 use Rattle.table.specs.Offsets.{slot_of, sizes_before, body_offset, blank_column}
 use Rattle.table.specs.Rules.{entry_holds}
-use Rattle.table.proofs.Columns.{kind-is, count-is, size_is, size_in, Counted, one-of-them, past-them}
+use Rattle.table.proofs.Columns.{kind-is, count-is, size_is, size-in, Counted, one-of-them, past-them}
 use Rattle.table.proofs.Lists.{HoldBelow, hold-turn, hold-fail, hold-end, largest-next}
 use Rattle.table.proofs.Slots.{slot_small}
 use Rattle.table.proofs.Sounds.{sound-table}
@@ -29,7 +29,7 @@ module _ (sheet : List ℕ) (k : ℕ) (h : k < column_count sheet) {b : ℕ} (is
   count-here = ap (λ (j : ℕ). word_at sheet (j + count_in)) is ∙ sym (count-is sheet k h)
 
   pub size-here : word_at sheet (b + size_in) ≡ (column_at sheet k).size
-  size-here = ap (λ (j : ℕ). word_at sheet (j + size_in)) is ∙ sym (size_is sheet k h ∙ size_in sheet k h)
+  size-here = ap (λ (j : ℕ). word_at sheet (j + size_in)) is ∙ sym (size_is sheet k h ∙ size-in sheet k h)
 
 -- ---- where a body begins: the bodies below k are passed
 pub record BodySo (sheet : List ℕ) (column at k : ℕ) : Type 0 where

@@ -1,4 +1,6 @@
 // The sheet's table: whether a sheet is sound, its columns' entries, and a column's body fetched.
+#![tactic(auto)]
+
 ghost use Rattle.std.specs.Prelude.{◌≡◌};
 ghost use Rattle.meaning.specs.Answer.{passed};
 ghost use Rattle.meaning.specs.Promises.{Fetches};
@@ -14,7 +16,7 @@ pub mod entries;
 pub mod rules;
 
 // A column by its entry: its kind, where its 15 plan bytes begin, its count, its body's length and where its body begins.
-#[derive(Drop)]
+#[derive(Clone, Copy)]
 pub struct Entry {
     pub kind: u8,
     pub plan: Offset,
@@ -24,7 +26,7 @@ pub struct Entry {
 }
 
 // A column asked for: its entry, or the refusal.
-#[derive(Drop)]
+#[derive(Clone, Copy)]
 pub enum Column {
     At(Entry),
     Refused(u8),

@@ -1,4 +1,6 @@
 // The text of the two programs, written into a lent output.
+#![tactic(auto)]
+
 ghost use Rattle.std.specs.Prelude.{◌≡◌, [], ◌<◌, ◌^◌, length};
 ghost use Rattle.meaning.specs.Answer.{blamed};
 ghost use Rattle.meaning.specs.Limits.{most_numbers};

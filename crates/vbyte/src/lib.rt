@@ -1,4 +1,6 @@
 // Code 1, VByte: 7 bits a byte, lowest first, top bit 1 when more follows.
+#![tactic(auto)]
+
 ghost use Rattle.std.specs.Prelude.{not, ◌≡◌, ◌+◌, ◌^◌, ◌≤◌, ◌<◌, eqb, length};
 ghost use Rattle.meaning.specs.Answer.{given, need};
 ghost use Rattle.meaning.specs.Codes.{code_vbyte};
@@ -11,7 +13,7 @@ use leaves::{from_byte, lesser, put, taken, wide};
 use meaning::{BROKEN, CUT_SHORT, Offset, Place, Position, Taken, Unit, UnitRead};
 
 // One number read: its value and the offset after it, or the refusal.
-#[derive(Drop)]
+#[derive(Clone, Copy)]
 enum Number {
     Read(u32, Offset),
     Refused(u8),

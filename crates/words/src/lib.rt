@@ -1,4 +1,6 @@
 // Numbers in bytes, least significant first: in the fewest that hold them, in 4, in 8, and in as many as are asked for.
+#![tactic(auto)]
+
 ghost use Rattle.std.specs.Prelude.{◌≡◌, ◌<◌, ◌+◌, ◌*◌, ◌≤◌, ◌^◌, length, take, drop};
 ghost use Rattle.std.proofs.lemmas.List.Edits.{sets};
 ghost use Rattle.meaning.specs.Bytes.{bytes_of, number_of, word, word_at};

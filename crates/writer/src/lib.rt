@@ -1,5 +1,7 @@
 // Sheets written: orders as slices of kinds, plans and counts, and one slice with all lists joined.
 // The pass that lays a sheet down runs twice: over a byte of its own, which tells the size, and over the output once that is known to fit.
+#![tactic(auto)]
+
 ghost use Rattle.meaning.specs.Promises.{WritesApart};
 
 use crate::sheets::put_sheet;

@@ -1,0 +1,54 @@
+-- `select` passes stretches of 8 words, and finds the bit in the one that holds it (`SelectSo`). Assumes nothing.
+use Prim.Native.Nat.{◌-◌}
+use mathlib.Core.Path.{sym, ap, ◌∙◌}
+use native.Mathlib.Omega.{arith}
+use lib.ListN.{length}
+use Rattle.meaning.specs.Says.{selected_says}
+use Rattle.bits.proofs.Asked.{select-long}
+use Rattle.bits.proofs.Selecting.{SelectSo, select-start, select-turn, select-inside, select-found, select-holds, select-end}
+use borrow.Author.Rules.{rules}
+use Rattle.bits.proofs.select.Goals as goal
+
+pub returns-then-len-gt-MOST_BYTES : goal.returns-then-len-gt-MOST_BYTES
+returns-then-len-gt-MOST_BYTES c = sym (select-long c.args.bytes.now c.args.k (omega (arith, c.if-len-gt-MOST_BYTES.true)))
+
+pub loop-byte-init : goal.loop-byte-init
+loop-byte-init c = select-start c.if-len-gt-MOST_BYTES.false
+
+pub ones_in-ones-requires : goal.ones_in-ones-requires
+ones_in-ones-requires c = c.loop-byte.invariant in omega (arith, so.short, so.near)
+
+pub one_in-requires : goal.one_in-requires
+one_in-requires c =
+    let so = c.loop-byte.invariant in
+    omega (arith, so.short, so.near)
+
+-- a stretch with enough ones holds the one that is looked for
+pub returns-in_default : goal.returns-in_default
+returns-in_default c =
+    absurd (select-holds c.loop-byte.invariant c.ones_in_lem.ensures c.if-left-ones.true
+    (sym c.one_in.ensures ∙ ap selected_says c.in_default.is))
+
+pub overflow_mul-index : goal.overflow_mul-index
+overflow_mul-index c =
+    let so = c.loop-byte.invariant in
+    omega (arith, so.short, so.near)
+
+pub overflow_add-index : goal.overflow_add-index
+overflow_add-index c =
+    let so = c.loop-byte.invariant in
+    omega (arith, so.short, select-inside so (sym c.one_in.ensures ∙ ap selected_says c.in-At.is))
+
+pub returns-then-left-ones : goal.returns-then-left-ones
+returns-then-left-ones c = select-found c.loop-byte.invariant (sym c.one_in.ensures ∙ ap selected_says c.in-At.is)
+
+pub overflow_add-byte : goal.overflow_add-byte
+overflow_add-byte c =
+    let so = c.loop-byte.invariant in
+    omega (arith, so.short, so.near)
+
+pub loop-byte-preserved : goal.loop-byte-preserved
+loop-byte-preserved c = select-turn c.loop-byte.invariant c.loop-byte-test.true c.ones_in_lem.ensures c.if-left-ones.false
+
+pub returns : goal.returns
+returns c = select-end c.loop-byte.invariant c.loop-byte-test.false

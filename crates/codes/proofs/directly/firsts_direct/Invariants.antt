@@ -1,0 +1,16 @@
+-- The numbers at the first places stand in work, looked up one by one. Assumes nothing.
+use Prim.Native.Nat.{◌-◌, ◌≤◌}
+use mathlib.Core.Path.{sym, ap, ◌∙◌}
+use native.Mathlib.Omega.{arith}
+use borrow.Author.Rules.{rules}
+use Rattle.meaning.specs.Direct.{look_direct}
+use Rattle.meaning.specs.Says.{found_says}
+use Rattle.codes.specs.Firsts.{Space}
+use Rattle.codes.proofs.Lookings.{Laid, laid_none, laid_one, firsts-stop, firsts-all}
+use Rattle.codes.proofs.directly.firsts_direct.Given as goal
+
+abbrev pub invariant-loop-number : goal.invariant-loop-number
+invariant-loop-number l = Laid (look_direct l.body) l.to l.initial.work l.work l.number × (l.number ≤ l.k) × Space l.body l.n l.k l.initial.work l.to
+
+abbrev pub decreases-loop-number : goal.decreases-loop-number
+decreases-loop-number l = l.k - l.number

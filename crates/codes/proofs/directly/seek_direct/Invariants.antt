@@ -1,0 +1,22 @@
+-- The first `number` runs have been passed, length by length. Assumes nothing.
+use Prim.Native.Nat.{ℕ, ◌+◌, ◌-◌, ◌≤◌, ◌<◌}
+use mathlib.Core.Path.{◌≡◌, sym, ap, ap₂, ◌∙◌}
+use native.Mathlib.Nat.{sub-zero}
+use native.Mathlib.Omega.{arith}
+use lib.ListN.{length}
+use borrow.Author.Rules.{rules}
+use borrow.Author.Tests.{not-true, not-false}
+use Rattle.meaning.specs.Direct.{look_direct}
+use Rattle.meaning.specs.Limits.{most_bytes, most_numbers}
+use Rattle.meaning.specs.Says.{found_says}
+use Rattle.meaning.specs.Stages.{seek}
+use Rattle.stages.proofs.Seeks.{seek-none, seek-stops, seek-breaks, seek-here, seek-later}
+use Rattle.stages.proofs.Unrolls.{fits-so}
+use Rattle.codes.proofs.directly.seek_direct.Given as goal
+
+abbrev pub invariant-loop-number : goal.invariant-loop-number
+invariant-loop-number l = (seek (look_direct l.body) l.n l.goal l.runs 0 0 ≡ seek (look_direct l.body) l.n l.goal (l.runs - l.number) l.number l.done)
+    × (l.done ≤ l.goal) × (l.goal < l.n) × (l.number ≤ l.runs) × (l.runs ≤ l.n) × (l.n ≤ most_numbers) × (length l.body ≤ most_bytes)
+
+abbrev pub decreases-loop-number : goal.decreases-loop-number
+decreases-loop-number l = l.runs - l.number

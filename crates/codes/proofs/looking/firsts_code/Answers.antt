@@ -1,0 +1,99 @@
+-- The numbers at the first `passed` places stand in work. Assumes nothing.
+use borrow.Author.Rules.{rules}
+use Prim.Native.Nat.{ℕ, ◌-◌, ◌≤◌, ◌<◌}
+use mathlib.Core.Path.{◌≡◌, refl, sym, ap, ◌∙◌}
+use native.Mathlib.Omega.{arith}
+use Rattle.meaning.specs.Answer.{refused}
+use Rattle.meaning.specs.Codes.{code_of, look_code}
+use Rattle.codes.specs.Firsts.{Space}
+use Rattle.codes.proofs.Lookings.{Looking, looking-start, start-refuses, refuses, looking-on}
+use Rattle.codes.proofs.Lookings.{those, Laid, laid_none, laid-went, firsts-stop, firsts-all, firsts_same}
+use Rattle.codes.proofs.Numbered.{way-units, look-eight}
+use Rattle.codes.proofs.Stretches.{goes_on, goes-refused}
+use Rattle.codes.proofs.looking.firsts_code.Goals as goal
+
+pub returns-then-is_direct : goal.returns-then-is_direct
+returns-then-is_direct c =
+    let a = c.args in
+    let eight = look-eight a.code (sym c.is_direct.ensures ∙ c.if-is_direct.true) a.body.now a.n in
+    firsts_same eight c.firsts_direct.ensures
+
+pub returns-then-k-eq0 : goal.returns-then-k-eq0
+returns-then-k-eq0 c =
+    let e = c.if-k-eq0.true in
+    rw e (firsts-all laid_none refl)
+
+pub returns-in_default : goal.returns-in_default
+returns-in_default c =
+    let a = c.args in
+    let units = way-units a.code (sym c.is_direct.ensures ∙ c.if-is_direct.false) in
+    firsts-stop laid_none (omega (arith, c.if-k-eq0.false))
+    (start-refuses a.code a.body.now a.n units c.start_at-started.ensures c.in_default.is 0 ∙ ap (λ (e : ℕ). refused e)
+    (sym c.start_refusal.ensures))
+
+pub loop-passed-init : goal.loop-passed-init
+loop-passed-init c =
+    let a = c.args in
+    let units = way-units a.code (sym c.is_direct.ensures ∙ c.if-is_direct.false) in (
+      λ h. looking-start a.code a.body.now a.n units c.start_at-started.ensures (λ i. (c.type_inv.body i).fits) c.requires.short
+          c.in-At.is,
+      laid_none,
+      omega arith,
+      c.requires,
+    )
+
+pub overflow_add-place : goal.overflow_add-place
+overflow_add-place c =
+    let (l, laid, most, space) = c.loop-passed.invariant in
+    omega (arith, space.room, c.good)
+
+pub overflow_sub-n : goal.overflow_sub-n
+overflow_sub-n c =
+    let (l, laid, most, space) = c.loop-passed.invariant in
+    omega (arith, space.inside)
+
+pub stretch-went-requires : goal.stretch-went-requires
+stretch-went-requires c =
+    let (looking, laid, most, space) = c.loop-passed.invariant in
+    let l = looking c.loop-passed-test.true in
+    (record { inside = omega (arith, laid.long, space.room); short = l.short }, omega (arith, space.inside, c.loop-passed-test.true))
+
+pub returns-in_default-went : goal.returns-in_default-went
+returns-in_default-went c =
+    let (looking, laid, most, space) = c.loop-passed.invariant in
+    let l = looking c.loop-passed-test.true in
+    let (stops, same) = goes-refused c.stretch-went.ensures c.in_default-went.is in
+    rw same
+    (firsts-stop laid c.loop-passed-test.true
+    (refuses l c.stretch-went.ensures c.in_default-went.is _ (omega arith) (omega (arith, space.inside, c.loop-passed-test.true))
+    ∙ ap (λ (e : ℕ). refused e) (sym c.went_refusal.ensures)))
+
+pub overflow_add-passed : goal.overflow_add-passed
+overflow_add-passed c =
+    let (looking, laid, most, space) = c.loop-passed.invariant in
+    let l = looking c.loop-passed-test.true in
+    omega (arith, c.lesser-passed.ensures, space.room)
+
+pub loop-passed-smaller : goal.loop-passed-smaller
+loop-passed-smaller c =
+    let g = goes_on c.stretch-went.ensures c.in-On.is in
+    omega (arith, c.lesser-passed.ensures, g.some, c.loop-passed-test.true)
+
+pub loop-passed-preserved : goal.loop-passed-preserved
+loop-passed-preserved c =
+    let (looking, laid, most, space) = c.loop-passed.invariant in
+    let l = looking c.loop-passed-test.true in
+    let g = goes_on c.stretch-went.ensures c.in-On.is in (
+      λ h. let all : c.lesser-passed.result ≡ c.in-On.taken.count = omega (arith, c.lesser-passed.ensures, h) in rw all (looking-on l g),
+      laid-went laid space.room most g c.lesser-passed.ensures (those l g),
+      omega (arith, c.lesser-passed.ensures),
+      space,
+    )
+
+pub shape_of-work : goal.shape_of-work
+shape_of-work c = c.loop-passed.invariant.1.long
+
+pub returns : goal.returns
+returns c =
+    let (l, laid, most, space) = c.loop-passed.invariant in
+    firsts-all laid (omega (arith, c.loop-passed-test.false))

@@ -1,0 +1,23 @@
+-- `next_number` meets its contract: its zeros say how many bytes the number has. Assumes nothing.
+use native.Mathlib.Omega.{arith}
+use borrow.Author.Rules.{rules}
+use Rattle.direct.proofs.Fits.{data-few}
+use Rattle.direct.proofs.Nexts.{next-none, next-given, next-refused}
+use Rattle.direct.proofs.input.next_number.Goals as goal
+
+pub returns-then-d-first : goal.returns-then-d-first
+returns-then-d-first c = next-none c.requires _ {len = 1} (omega arith) (omega (arith, c.if-d-first.true))
+
+pub overflow_add-index : goal.overflow_add-index
+overflow_add-index c = omega (arith, c.zeros_from-len.ensures, data-few c.requires (λ i. (c.type_inv.body i).fits))
+
+pub returns-then-d-index : goal.returns-then-d-index
+returns-then-d-index c = next-none c.requires _ (omega (arith, c.zeros_from-len.ensures)) c.if-d-index.true
+
+pub returns-in-Number : goal.returns-in-Number
+returns-in-Number c =
+    next-given c.requires _ (omega (arith, c.zeros_from-len.ensures)) c.if-d-index.false _ c.number_in.ensures c.in-Number.is
+
+pub returns-in-Refused : goal.returns-in-Refused
+returns-in-Refused c =
+    next-refused c.requires _ (omega (arith, c.zeros_from-len.ensures)) c.if-d-index.false _ c.number_in.ensures c.in-Refused.is

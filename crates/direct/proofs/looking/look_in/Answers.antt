@@ -1,0 +1,43 @@
+-- `look_in` meets its contract: the stretch by the sums, the bit by the words that hold the stretch. Assumes nothing.
+use mathlib.Core.Path.{◌∙◌}
+use native.Mathlib.Omega.{arith}
+use borrow.Author.Rules.{rules}
+use Rattle.direct.proofs.Fits.{standing}
+use Rattle.direct.proofs.Looks.{stretch-within, look_none, found-few, look-behind, look-here}
+use Rattle.direct.proofs.looking.look_in.Goals as goal
+
+pub overflow_mul-first : goal.overflow_mul-first
+overflow_mul-first c = omega (arith, stretch-within c.requires.0 c.stretch_of-stretch.ensures)
+
+pub overflow_sub-d : goal.overflow_sub-d
+overflow_sub-d c = omega (arith, stretch-within c.requires.0 c.stretch_of-stretch.ensures)
+
+pub overflow_mul-byte : goal.overflow_mul-byte
+overflow_mul-byte c = omega (arith, stretch-within c.requires.0 c.stretch_of-stretch.ensures)
+
+pub overflow_add-byte : goal.overflow_add-byte
+overflow_add-byte c = omega (arith, stretch-within c.requires.0 c.stretch_of-stretch.ensures)
+
+pub one_in-found-requires : goal.one_in-found-requires
+one_in-found-requires c =
+    let within = stretch-within c.requires.0 c.stretch_of-stretch.ensures in
+    omega (arith, within, c.lesser.ensures, (standing c.requires.0).ends, c.requires.1)
+
+pub returns-in_default : goal.returns-in_default
+returns-in_default c = look_none c.requires.0 c.stretch_of-stretch.ensures c.lesser.ensures _ c.one_in-found.ensures c.in_default.is
+
+pub overflow_add-index : goal.overflow_add-index
+overflow_add-index c =
+    let few = found-few c.requires.0 c.stretch_of-stretch.ensures c.lesser.ensures _ c.one_in-found.ensures c.in-At.is in
+    omega (arith, few, c.lesser.ensures, stretch-within c.requires.0 c.stretch_of-stretch.ensures, (standing c.requires.0).ends, c.requires.1)
+
+pub returns-then-d-index : goal.returns-then-d-index
+returns-then-d-index c =
+    look-behind c.requires.0 c.stretch_of-stretch.ensures c.lesser.ensures _ c.one_in-found.ensures c.in-At.is
+    c.if-d-index.true
+
+pub returns : goal.returns
+returns c =
+    c.ending_at.ensures
+    ∙ look-here c.requires.0 c.stretch_of-stretch.ensures c.lesser.ensures _ c.one_in-found.ensures c.in-At.is
+    c.if-d-index.false

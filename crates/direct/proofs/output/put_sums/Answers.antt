@@ -1,0 +1,46 @@
+-- A sum is put where a number's bytes reach the end of a stretch. Assumes nothing.
+use Prim.Native.Nat.{◌-◌}
+use mathlib.Core.Logic.{⊎_elim}
+use native.Mathlib.Omega.{arith}
+use borrow.Author.Rules.{rules}
+use Rattle.direct.proofs.Sums.{SumSo, sum-start, sum-long, sum_near, sum-few, short-number, sum_more, sum-full, sum-end}
+use Rattle.direct.proofs.output.put_sums.Goals as goal
+
+pub loop-i-init : goal.loop-i-init
+loop-i-init c =
+    let a = c.args in
+    sum-start a.list.now a.from.number a.n a.at.byte a.out.now c.requires.0 c.requires.1
+
+pub overflow_add-count : goal.overflow_add-count
+overflow_add-count c =
+    let inv = c.loop-i.invariant in
+    omega (arith, sum-few inv, short-number inv c.loop-i-test.true c.byte_length-count.ensures)
+
+pub put_number-requires : goal.put_number-requires
+put_number-requires c =
+    let inv = c.loop-i.invariant in
+    omega (arith, inv.short, sum_near inv)
+
+pub overflow_add-to : goal.overflow_add-to
+overflow_add-to c =
+    let inv = c.loop-i.invariant in
+    omega (arith, inv.short, sum_near inv)
+
+pub loop-i-preserved-then-count-ge512 : goal.loop-i-preserved-then-count-ge512
+loop-i-preserved-then-count-ge512 c =
+    let inv = c.loop-i.invariant in
+    sum-full inv c.loop-i-test.true c.byte_length-count.ensures c.if-count-ge512.true
+    (λ goes_on. ⊎_elim (λ w. omega arith) (λ w. omega arith) c.if-count-gt0.came)
+    (λ ends. ⊎_elim (λ w. omega arith) (λ w. omega arith) c.if-count-gt0.came)
+    c.put_number.ensures
+
+pub loop-i-preserved : goal.loop-i-preserved
+loop-i-preserved c =
+    let inv = c.loop-i.invariant in
+    sum_more inv c.loop-i-test.true c.byte_length-count.ensures c.if-count-ge512.false
+
+pub shape_of-out : goal.shape_of-out
+shape_of-out c = sum-long c.loop-i.invariant
+
+pub returns : goal.returns
+returns c = sum-end c.loop-i.invariant c.loop-i-test.false

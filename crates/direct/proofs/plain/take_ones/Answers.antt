@@ -1,0 +1,61 @@
+-- `take_ones` meets its contract: each turn takes eight numbers of one byte (`Ones`). Assumes nothing.
+use Prim.Native.Nat.{◌-◌}
+use native.Mathlib.Omega.{arith}
+use borrow.Author.Rules.{rules}
+use Rattle.direct.proofs.Fits.{data-few}
+use Rattle.direct.proofs.Ones.{OnesSo, ones-start, ones-few, ones-byte, ones-far, ones-room, ones-inside, ones-turn, ones-end, ones_none}
+use Rattle.direct.proofs.plain.take_ones.Goals as goal
+
+pub data_at-data-requires : goal.data_at-data-requires
+data_at-data-requires c = omega (arith, data-few c.requires.0 (λ i. (c.type_inv.body i).fits))
+
+pub returns-then-to-ne0 : goal.returns-then-to-ne0
+returns-then-to-ne0 c = ones_none c.taken.ensures
+
+pub loop-n-init : goal.loop-n-init
+loop-n-init c =
+    ones-start c.requires.0 (λ i. (c.type_inv.body i).fits) c.requires.1 c.lesser-most.ensures c.data_at-data.ensures
+    c.lesser.ensures c.lesser-limit.ensures c.if-to-ne0.false
+
+pub overflow_add-n : goal.overflow_add-n
+overflow_add-n c = omega (arith, ones-few c.loop-n.invariant)
+
+pub overflow_add-to : goal.overflow_add-to
+overflow_add-to c = omega (arith, ones-far c.loop-n.invariant c.loop-n-test.true)
+
+pub bounds-body-to : goal.bounds-body-to
+bounds-body-to c = ones-byte c.loop-n.invariant c.loop-n-test.true
+
+pub shape_of-work-then-body-to : goal.shape_of-work-then-body-to
+shape_of-work-then-body-to c = c.loop-n.invariant.taking.long
+
+pub returns-then-body-to : goal.returns-then-body-to
+returns-then-body-to c = ones-end c.loop-n.invariant c.lesser-most.ensures c.from_bit.ensures c.taken-then-body-to.ensures
+
+pub overflow_add-byte : goal.overflow_add-byte
+overflow_add-byte c = omega (arith, ones-far c.loop-n.invariant c.loop-n-test.true)
+
+pub overflow_add-number : goal.overflow_add-number
+overflow_add-number c = omega (arith, ones-room c.loop-n.invariant c.loop-n-test.true, c.loop-n.invariant.taking.long, c.good)
+
+pub take_eight-requires : goal.take_eight-requires
+take_eight-requires c =
+    (ones-inside c.loop-n.invariant c.loop-n-test.true c.if-body-to.false, ones-room c.loop-n.invariant c.loop-n-test.true)
+
+pub overflow_add-n-in-loop-n : goal.overflow_add-n-in-loop-n
+overflow_add-n-in-loop-n c = omega (arith, ones-few c.loop-n.invariant)
+
+pub overflow_add-to-in-loop-n : goal.overflow_add-to-in-loop-n
+overflow_add-to-in-loop-n c = omega (arith, ones-far c.loop-n.invariant c.loop-n-test.true)
+
+pub loop-n-smaller : goal.loop-n-smaller
+loop-n-smaller c = omega (arith, c.loop-n-test.true)
+
+pub loop-n-preserved : goal.loop-n-preserved
+loop-n-preserved c = ones-turn c.loop-n.invariant c.loop-n-test.true c.if-body-to.false c.take_eight.ensures
+
+pub shape_of-work : goal.shape_of-work
+shape_of-work c = c.loop-n.invariant.taking.long
+
+pub returns : goal.returns
+returns c = ones-end c.loop-n.invariant c.lesser-most.ensures c.from_bit-2.ensures c.taken-2.ensures

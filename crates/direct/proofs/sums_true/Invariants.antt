@@ -1,0 +1,14 @@
+-- `sums_true` meets its contract: each turn adds a stretch's ones. Assumes nothing.
+use Prim.Native.Nat.{◌-◌}
+use mathlib.Core.Path.{sym, ◌∙◌}
+use native.Mathlib.Omega.{arith}
+use borrow.Author.Rules.{rules}
+use Rattle.meaning.specs.Direct.{sum_count}
+use Rattle.direct.proofs.Dones.{Adding, adding-start, stretch-inside, ones-fit, adding-false, adding-turn, adding-end}
+use Rattle.direct.proofs.sums_true.Given as goal
+
+abbrev pub invariant-loop-s : goal.invariant-loop-s
+invariant-loop-s l = Adding l.body l.d l.ones l.s
+
+abbrev pub decreases-loop-s : goal.decreases-loop-s
+decreases-loop-s l = l.stretches - l.s

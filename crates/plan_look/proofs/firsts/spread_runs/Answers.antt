@@ -1,0 +1,10 @@
+-- `spread_runs`: what is laid, and why no more is. Assumes nothing.
+use Rattle.plan_look.proofs.Spreads.{runs-turned}
+use borrow.Author.Rules.{rules}
+use Rattle.plan_look.proofs.firsts.spread_runs.Goals as goal
+
+pub returns : goal.returns
+returns c =
+    rw c.ended.ensures
+    (runs-turned c.args.runs c.requires.0 c.requires.1 c.requires.2 _ c.lesser-both.ensures
+    c.spread-laid.ensures _ c.next_refusal-refusal.ensures)

@@ -1,0 +1,134 @@
+-- Strict reading by a plan: what the callees ensure is handed to the law of its stage. Assumes nothing.
+use Prim.Native.Nat.{ℕ, ◌+◌, ◌-◌, ◌*◌, ◌<◌}
+use mathlib.Core.Path.{refl, sym, ◌∙◌}
+use native.Mathlib.Omega.{arith}
+use lib.ListN.{length}
+use borrow.Author.Rules.{rules}
+use Rattle.meaning.specs.Places.{Below}
+use Rattle.judge.proofs.PlanLaws.{at-bad, at_code, at-reference, at-differences, at-runs}
+use Rattle.codes.proofs.Numbered.{laws}
+use Rattle.stages.proofs.Headers.{Headed, headed, headless}
+use Rattle.stages.proofs.Parts.{part-short, part-below}
+use Rattle.stages.proofs.Rooms.{fits-list, fits-inner, fits-runs, fits-values, fits-lengths, fits-spread}
+use Rattle.plan_read.proofs.Steps.{whole_is, step-bad, step-code, step-as, step-reference-short, step-reference-stop, step-reference}
+use Rattle.plan_read.proofs.Steps.{step-differences-stop, step-differences, runs_none, runs-stop, runs-stop-2, runs_then, got-second}
+use Rattle.plan_read.proofs.+read_plan_read_runs.Goals as goal
+
+-- ---- read_plan
+
+pub read_plan-read_code-requires : goal.read_plan-read_code-requires
+read_plan-read_code-requires t c = record { inside = omega (arith, fits-list c.requires.1); short = c.requires.1.short }
+
+pub read_plan-returns-then-body-lt4 : goal.read_plan-returns-then-body-lt4
+read_plan-returns-then-body-lt4 t c =
+    let is = at-reference _ _ _ _ _ (sym c.stage_at.ensures ∙ c.in-Reference.is) in
+    step-reference-short _ _ _ _ _ is.0 _ c.if-body-lt4.true
+
+pub read_plan-read_plan-requires : goal.read_plan-read_plan-requires
+read_plan-read_plan-requires t c =
+    let is = at-reference _ _ _ _ _ (sym c.stage_at.ensures ∙ c.in-Reference.is) in
+    (omega arith, fits-inner c.requires.1 is.1 (part-short c.args.body.now 4 (length c.args.body.now - 4)))
+
+pub read_plan-raise-requires : goal.read_plan-raise-requires
+read_plan-raise-requires t c = omega (arith, fits-list c.requires.1)
+
+pub read_plan-read_plan-requires-in-Differences : goal.read_plan-read_plan-requires-in-Differences
+read_plan-read_plan-requires-in-Differences t c =
+    let is = at-differences _ _ _ _ _ (sym c.stage_at.ensures ∙ c.in-Differences.is) in
+    (omega arith, fits-inner c.requires.1 is.1 (omega arith))
+
+pub read_plan-sum_up-requires : goal.read_plan-sum_up-requires
+read_plan-sum_up-requires t c = omega (arith, fits-list c.requires.1)
+
+pub read_plan-read_runs-requires : goal.read_plan-read_runs-requires
+read_plan-read_runs-requires t c =
+    let is = at-runs _ _ _ _ _ (sym c.stage_at.ensures ∙ c.in-Runs.is) in
+    (omega arith, fits-runs c.requires.1 is.1)
+
+pub read_plan-returns-in-Bad : goal.read_plan-returns-in-Bad
+read_plan-returns-in-Bad t c = step-bad _ _ _ _ _ (at-bad _ _ _ (sym c.stage_at.ensures ∙ c.in-Bad.is))
+
+pub read_plan-returns-in-Code : goal.read_plan-returns-in-Code
+read_plan-returns-in-Code t c =
+    let is = at_code _ _ _ _ (sym c.stage_at.ensures ∙ c.in-Code.is) in
+    step-code _ _ _ _ _ _ _ _ is.0 c.read_code.ensures
+
+pub read_plan-returns-in-Refused : goal.read_plan-returns-in-Refused
+read_plan-returns-in-Refused t c =
+    let is = at-reference _ _ _ _ _ (sym c.stage_at.ensures ∙ c.in-Reference.is) in
+    step-reference-stop _ _ _ _ _ is.0 _ _ _ c.if-body-lt4.false c.read_plan.ensures _ c.in-Refused.is
+
+pub read_plan-returns-in-Whole : goal.read_plan-returns-in-Whole
+read_plan-returns-in-Whole t c =
+    let is = at-reference _ _ _ _ _ (sym c.stage_at.ensures ∙ c.in-Reference.is) in
+    let bytes = part-below c.args.body.now 4 (length c.args.body.now - 4) (λ i. (c.type_inv.body i).fits) in
+    let many = whole_is laws _ _ _ _ _ _ _ _ bytes c.read_plan.ensures c.in-Whole.is in
+    step-reference _ _ _ _ _ is.0 _ _ _ c.if-body-lt4.false c.read_plan.ensures _ _ _ _ c.in-Whole.is many c.word_at-m.ensures
+    c.raise.ensures
+
+pub read_plan-returns-in-Refused-read_plan : goal.read_plan-returns-in-Refused-read_plan
+read_plan-returns-in-Refused-read_plan t c =
+    let is = at-differences _ _ _ _ _ (sym c.stage_at.ensures ∙ c.in-Differences.is) in
+    step-differences-stop _ _ _ _ _ is.0 _ _ _ c.read_plan-in-Differences.ensures _ c.in-Refused-read_plan.is
+
+pub read_plan-returns-in-Whole-read_plan : goal.read_plan-returns-in-Whole-read_plan
+read_plan-returns-in-Whole-read_plan t c =
+    let is = at-differences _ _ _ _ _ (sym c.stage_at.ensures ∙ c.in-Differences.is) in
+    let many = whole_is laws _ _ _ _ _ _ _ _ (λ i. (c.type_inv.body i).fits) c.read_plan-in-Differences.ensures c.in-Whole-read_plan.is in
+    step-differences _ _ _ _ _ is.0 _ _ _ c.read_plan-in-Differences.ensures _ _ _ c.in-Whole-read_plan.is many c.sum_up.ensures
+
+pub read_plan-returns-in-Runs : goal.read_plan-returns-in-Runs
+read_plan-returns-in-Runs t c =
+    let is = at-runs _ _ _ _ _ (sym c.stage_at.ensures ∙ c.in-Runs.is) in
+    step-as _ _ _ _ _ _ _ _ is.0 c.read_runs.ensures
+
+-- ---- read_runs
+
+pub read_runs-read_plan-requires : goal.read_runs-read_plan-requires
+read_runs-read_plan-requires t c =
+    let head = headed c.header_of.ensures c.in-Runs.is in
+    let split = c.in-Runs.end.byte in
+    (omega arith, fits-values c.requires.1 head.few (part-short c.args.body.now 8 (split - 8)) refl)
+
+pub read_runs-read_plan-requires-in-Whole : goal.read_runs-read_plan-requires-in-Whole
+read_runs-read_plan-requires-in-Whole t c =
+    let head = headed c.header_of.ensures c.in-Runs.is in
+    let split = c.in-Runs.end.byte in
+    let short = part-short c.args.body.now split (length c.args.body.now - split) in
+    (omega arith, fits-lengths c.requires.1 head.few short c.read_plan.kept.1.1.1.1.1.0)
+
+pub read_runs-unroll_into-requires : goal.read_runs-unroll_into-requires
+read_runs-unroll_into-requires t c =
+    let head = headed c.header_of.ensures c.in-Runs.is in
+    (omega (arith, fits-spread c.requires.1), head.few)
+
+pub read_runs-returns-in-Refused : goal.read_runs-returns-in-Refused
+read_runs-returns-in-Refused t c = runs_none _ _ _ _ _ _ (headless c.header_of.ensures c.in-Refused.is)
+
+pub read_runs-returns-in-Refused-read_plan : goal.read_runs-returns-in-Refused-read_plan
+read_runs-returns-in-Refused-read_plan t c =
+    let head = headed c.header_of.ensures c.in-Runs.is in
+    runs-stop _ _ _ _ _ head _ _ _ c.read_plan.ensures _ c.in-Refused-read_plan.is
+
+pub read_runs-returns-in-Refused-read_plan-2 : goal.read_runs-returns-in-Refused-read_plan-2
+read_runs-returns-in-Refused-read_plan-2 t c =
+    let head = headed c.header_of.ensures c.in-Runs.is in
+    let bytes = part-below c.args.body.now 8 (c.in-Runs.end.byte - 8) (λ i. (c.type_inv.body i).fits) in
+    let many = whole_is laws _ _ _ _ _ _ _ _ bytes c.read_plan.ensures c.in-Whole.is in
+    got-second _ _ _ _ _ _ _ _ _ _ _ c.plan_end-second.ensures
+    (runs-stop-2 _ _ _ _ _ head _ _ _ c.read_plan.ensures _ c.in-Whole.is many
+    _ _ c.read_plan-in-Whole.ensures _ c.in-Refused-read_plan-2.is)
+
+pub read_runs-returns-in-Whole-read_plan : goal.read_runs-returns-in-Whole-read_plan
+read_runs-returns-in-Whole-read_plan t c =
+    let head = headed c.header_of.ensures c.in-Runs.is in
+    let split = c.in-Runs.end.byte in
+    let all : Below 256 c.args.body.now = λ i. (c.type_inv.body i).fits in
+    let bytes = part-below c.args.body.now 8 (split - 8) all in
+    let bytes₂ = part-below c.args.body.now split (length c.args.body.now - split) all in
+    let many = whole_is laws _ _ _ _ _ _ _ _ bytes c.read_plan.ensures c.in-Whole.is in
+    let many₂ = whole_is laws _ _ _ _ _ _ _ _ bytes₂ c.read_plan-in-Whole.ensures c.in-Whole-read_plan.is in
+    got-second _ _ _ _ _ _ _ _ _ _ _ c.plan_end-second.ensures
+    (runs_then _ _ _ _ _ head _ _ _ c.read_plan.ensures _ c.in-Whole.is many
+    _ _ c.read_plan-in-Whole.ensures _ c.in-Whole-read_plan.is many₂
+    _ _ c.unroll_into.ensures)

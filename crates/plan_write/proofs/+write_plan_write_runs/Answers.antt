@@ -1,0 +1,109 @@
+-- Writing by a plan: what the callees ensure is handed to the law of its stage. Assumes nothing.
+use Prim.Native.Nat.{ℕ, ◌+◌, ◌*◌, ◌<◌}
+use mathlib.Core.Path.{sym, ◌∙◌}
+use native.Mathlib.Omega.{arith}
+use borrow.Author.Rules.{rules}
+use Rattle.meaning.specs.Plan.{Plan, plan_at}
+use Rattle.judge.proofs.PlanLaws.{at-bad, at_code, at-reference, at-differences, at-runs, second}
+use Rattle.plan_write.proofs.Steps.{fit-list, fit-code, fit-more, fit-inner, fit-runs, fit-three, fit-part, Ended, runs_fit, values-end}
+use Rattle.plan_write.proofs.Steps.{written-bad, written-code, written-stage, written-differences, written-reference, written-runs}
+use Rattle.plan_write.proofs.+write_plan_write_runs.Goals as goal
+
+-- back to the start, where it is too far for `search`
+start_of : In-runs runs.After-write-plan → In-runs runs.Start
+start_of c = search
+
+-- where the values' body ended
+ended : (c : In-runs runs.After-write-plan)
+    → Ended (start_of c).args.stages (start_of c).args.n (start_of c).args.at.byte c.write-plan.result.byte
+ended c =
+    let known : In-runs runs.After-slice-known3 = search in
+    let made : In-runs runs.After-runs-into = search in
+    values-end (start_of c).requires.1 made.runs-into.ensures _ _ (λ i. (known.slice-known3.given i).fits) c.write-plan.ensures
+
+-- ---- write_plan
+
+pub write_plan-write_code-requires : goal.write_plan-write_code-requires
+write_plan-write_code-requires t c = record { inside = fit-list c.requires.1; short = fit-code c.requires.1 }
+
+pub write_plan-less_into-requires : goal.write_plan-less_into-requires
+write_plan-less_into-requires t c =
+    let is = at-reference _ _ _ _ _ (sym c.stage_at.ensures ∙ c.in-Reference.is) in
+    fit-more c.requires.1 is.1
+
+pub write_plan-write_plan-requires : goal.write_plan-write_plan-requires
+write_plan-write_plan-requires t c =
+    let is = at-reference _ _ _ _ _ (sym c.stage_at.ensures ∙ c.in-Reference.is) in
+    (omega (arith, c.requires.0, is.1), fit-inner c.requires.1 is.1 (omega arith) c.less_into.kept.0)
+
+pub write_plan-gaps_into-requires : goal.write_plan-gaps_into-requires
+write_plan-gaps_into-requires t c =
+    let is = at-differences _ _ _ _ _ (sym c.stage_at.ensures ∙ c.in-Differences.is) in
+    fit-more c.requires.1 is.1
+
+pub write_plan-write_plan-requires-in-Differences : goal.write_plan-write_plan-requires-in-Differences
+write_plan-write_plan-requires-in-Differences t c =
+    let is = at-differences _ _ _ _ _ (sym c.stage_at.ensures ∙ c.in-Differences.is) in
+    (omega (arith, c.requires.0, is.1), fit-inner c.requires.1 is.1 (omega arith) c.gaps_into.kept.0)
+
+pub write_plan-write_runs-requires : goal.write_plan-write_runs-requires
+write_plan-write_runs-requires t c =
+    let is = at-runs _ _ _ _ _ (sym c.stage_at.ensures ∙ c.in-Runs.is) in
+    (omega (arith, c.requires.0, is.1), fit-runs c.requires.1 is.1)
+
+pub write_plan-returns-in-Bad : goal.write_plan-returns-in-Bad
+write_plan-returns-in-Bad t c = written-bad (at-bad _ _ _ (sym c.stage_at.ensures ∙ c.in-Bad.is))
+
+pub write_plan-returns-in-Code : goal.write_plan-returns-in-Code
+write_plan-returns-in-Code t c =
+    let is = at_code _ _ _ _ (sym c.stage_at.ensures ∙ c.in-Code.is) in
+    written-code is.0 c.write_code.ensures
+
+pub write_plan-returns-in-Reference : goal.write_plan-returns-in-Reference
+write_plan-returns-in-Reference t c =
+    let is = at-reference _ _ _ _ _ (sym c.stage_at.ensures ∙ c.in-Reference.is) in
+    written-reference c.requires.1 is.1 is.0 c.least_of-m.ensures c.put_word.ensures c.less_into.ensures
+    c.write_plan.ensures
+
+pub write_plan-returns-in-Differences : goal.write_plan-returns-in-Differences
+write_plan-returns-in-Differences t c =
+    let is = at-differences _ _ _ _ _ (sym c.stage_at.ensures ∙ c.in-Differences.is) in
+    written-differences c.requires.1 is.1 is.0 c.gaps_into.ensures c.write_plan-in-Differences.ensures
+
+pub write_plan-returns-in-Runs : goal.write_plan-returns-in-Runs
+write_plan-returns-in-Runs t c =
+    let is = at-runs _ _ _ _ _ (sym c.stage_at.ensures ∙ c.in-Runs.is) in
+    written-stage is.0 c.write_runs.ensures
+
+-- ---- write_runs
+
+pub write_runs-word_of-requires : goal.write_runs-word_of-requires
+write_runs-word_of-requires t c = omega (arith, runs_fit c.requires.1 c.runs_into-k.ensures, c.requires.1.few)
+
+pub write_runs-write_plan-end-requires : goal.write_runs-write_plan-end-requires
+write_runs-write_plan-end-requires t c =
+    let few = runs_fit c.requires.1 c.runs_into-k.ensures in
+    (omega (arith, c.requires.0), fit-part c.requires.1 few (omega arith) (omega arith) c.runs_into-k.kept.0)
+
+pub write_runs-overflow_sub-stop : goal.write_runs-overflow_sub-stop
+write_runs-overflow_sub-stop t c = omega (arith, (ended c).after)
+
+pub write_runs-word_of-requires-2 : goal.write_runs-word_of-requires-2
+write_runs-word_of-requires-2 t c = omega (arith, (ended c).after, (ended c).before, (start_of c).requires.1.small)
+
+pub write_runs-overflow_add-first-2 : goal.write_runs-overflow_add-first-2
+write_runs-overflow_add-first-2 t c = omega (arith, (start_of c).good, (start_of c).requires.1.within)
+
+pub write_runs-write_plan-requires : goal.write_runs-write_plan-requires
+write_runs-write_plan-requires t c =
+    let few = runs_fit c.requires.1 c.runs_into-k.ensures in
+    let same = c.write_plan-end.kept.1.1.1.0 ∙ c.runs_into-k.kept.0 in
+    (omega (arith, c.requires.0), fit-part c.requires.1 few (omega arith) (ended c).before same)
+
+pub write_runs-returns : goal.write_runs-returns
+write_runs-returns t c =
+    let a = c.args in
+    written-runs c.requires.1 c.runs_into-k.ensures {p = plan_at a.stages a.plan.now a.pos.byte}
+    (second (λ (q : Plan). q) _ _ _ _ c.plan_end-second.ensures)
+    c.word_of.ensures c.put_word.ensures c.write_plan-end.ensures
+    c.word_of-2.ensures c.put_word-2.ensures c.write_plan.ensures

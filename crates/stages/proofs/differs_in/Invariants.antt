@@ -1,0 +1,12 @@
+-- `differs_in`: what is still to be asked of a number and those after it is the whole. Assumes nothing.
+use Prim.Native.Nat.{◌-◌}
+use mathlib.Core.Bool.{not}
+use lib.Dec.{eqb}
+use Rattle.stages.proofs.Walks.{Comparing}
+use Rattle.stages.proofs.differs_in.Given as goal
+
+abbrev pub invariant-loop-i : goal.invariant-loop-i
+invariant-loop-i l = Comparing (λ x y. not (eqb x y)) l.work l.first l.n l.v l.i
+
+abbrev pub decreases-loop-i : goal.decreases-loop-i
+decreases-loop-i l = l.n - l.i

@@ -1,0 +1,18 @@
+-- `board` puts the tallies or the refusal that the board answers. Assumes nothing.
+use native.Mathlib.Omega.{arith}
+use borrow.Author.Rules.{rules}
+use Rattle.texts.proofs.Boards.{board-tallies, board-refused}
+use Rattle.texts.proofs.Putting.{widened, written}
+use Rattle.texts.proofs.board.Goals as goal
+
+pub returns-in-Tallies : goal.returns-in-Tallies
+returns-in-Tallies c =
+    let a = c.args in
+    let is = board-tallies a.sheet.now a.work.now c.requires _ c.board-counted.ensures c.in-Tallies.is in
+    written is c.put_tally-end.ensures
+
+pub returns-in-Refused : goal.returns-in-Refused
+returns-in-Refused c =
+    let a = c.args in
+    let is = board-refused a.sheet.now a.work.now c.requires _ c.board-counted.ensures c.in-Refused.is in
+    written is (widened c.put_refused-end.ensures (omega arith))

@@ -1,0 +1,35 @@
+-- The words that are still to be put, put from here on, make the whole; a turn puts one. Assumes nothing.
+use Prim.Native.Nat.{◌-◌}
+use mathlib.Core.List.{map}
+use native.Mathlib.Omega.{arith}
+use lib.ListN.{length, drop}
+use Rattle.meaning.specs.Texts.{digits}
+use Rattle.texts.specs.Listing.{words}
+use Rattle.texts.proofs.Listings.{smalls-next, smalls-end}
+use Rattle.leaves.proofs.Putting.{left-long}
+use Rattle.texts.proofs.Putting.{Turning, turns-start, turns_next, turns-end}
+use borrow.Author.Rules.{rules}
+use Rattle.texts.proofs.columns.put_smalls.Goals as goal
+
+pub loop-i-init : goal.loop-i-init
+loop-i-init c =
+    let a = c.args in
+    turns-start (length a.bytes.now) 21 (words (map digits a.bytes.now)) a.at.byte a.out.now
+
+pub put_small-to-requires : goal.put_small-to-requires
+put_small-to-requires c = omega (arith, c.loop-i.invariant.short)
+
+pub loop-i-preserved : goal.loop-i-preserved
+loop-i-preserved c =
+    let l = c.loop-i in
+    let more = c.loop-i-test.true in
+    let next = smalls-next c.args.bytes.now l.i more in
+    turns_next l.invariant more next c.put_small-to.ensures.wrote c.put_small-to.ensures.short
+
+pub shape_of-out : goal.shape_of-out
+shape_of-out c = left-long c.loop-i.invariant.left
+
+pub returns : goal.returns
+returns c =
+    let done = c.loop-i-test.false in
+    turns-end c.loop-i.invariant done (smalls-end c.args.bytes.now c.loop-i.i done)

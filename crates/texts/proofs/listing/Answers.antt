@@ -1,0 +1,25 @@
+-- `listing` puts the lines of a sheet that passes, or the refusal that the check answers. Assumes only the laws of the codes.
+use mathlib.Core.Path.{◌∙◌}
+use native.Mathlib.Omega.{arith}
+use Rattle.texts.proofs.Putting.{widened, written}
+use Rattle.texts.proofs.Sheets.{listing-passes, listing-lines, listing-refused}
+use borrow.Author.Rules.{rules}
+use Rattle.texts.proofs.listing.Goals as goal
+
+pub put_sheet-end-requires : goal.put_sheet-end-requires
+put_sheet-end-requires c =
+    let a = c.args in
+    let passes = listing-passes a.sheet.now a.work.now c.requires.0 _ c.check-checked.ensures c.in-Passed.is in
+    (record { passes = passes; works = c.check-checked.kept.1.0 ∙ c.requires.0; lists = c.requires.1 }, omega arith)
+
+pub returns-in-Passed : goal.returns-in-Passed
+returns-in-Passed c =
+    let a = c.args in
+    let is = listing-lines a.sheet.now a.work.now c.requires.0 _ c.check-checked.ensures c.in-Passed.is in
+    written is c.put_sheet-end.ensures
+
+pub returns-in-Refused : goal.returns-in-Refused
+returns-in-Refused c =
+    let a = c.args in
+    let is = listing-refused a.sheet.now a.work.now c.requires.0 _ c.check-checked.ensures c.in-Refused.is in
+    written is (widened c.put_refused-end.ensures (omega arith))

@@ -1,0 +1,6 @@
+-- A byte is its number. Assumes nothing.
+use borrow.Author.Rules.{rules}
+use Rattle.texts.proofs.pieces.put_small.Goals as goal
+
+pub returns : goal.returns
+returns c = rw c.wide.ensures.0 at c.put_number.ensures

@@ -1,0 +1,27 @@
+-- What is still to be put, put from here on, makes the whole word. Assumes nothing.
+use Prim.Native.Nat.{◌-◌}
+use native.Mathlib.Omega.{arith}
+use lib.ListN.{length, drop, drop_of_length-le}
+use Rattle.leaves.proofs.Putting.{Left, left-start, left-long, left-most, left-turn, left_end}
+use Rattle.texts.proofs.Putting.{rest-next}
+use borrow.Author.Rules.{rules}
+use Rattle.texts.proofs.pieces.put_word.Goals as goal
+
+pub loop-i-init : goal.loop-i-init
+loop-i-init c =
+    let a = c.args in
+    left-start a.word.now a.at.byte a.out.now
+
+pub put_byte-to-requires : goal.put_byte-to-requires
+put_byte-to-requires c = omega (arith, left-most c.loop-i.invariant, c.requires)
+
+pub loop-i-preserved : goal.loop-i-preserved
+loop-i-preserved c =
+    let l = c.loop-i in
+    left-turn l.invariant (rest-next c.args.word.now l.i c.loop-i-test.true) c.put_byte-to.ensures
+
+pub shape_of-out : goal.shape_of-out
+shape_of-out c = left-long c.loop-i.invariant
+
+pub returns : goal.returns
+returns c = left_end c.loop-i.invariant (drop_of_length-le c.args.word.now c.loop-i-test.false)

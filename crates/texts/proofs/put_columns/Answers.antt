@@ -1,0 +1,44 @@
+-- The columns that are still to be put, put from here on, make the whole; a turn puts one. Assumes only the laws of the codes.
+use Prim.Native.Nat.{◌-◌}
+use mathlib.Core.Path.{refl}
+use Rattle.leaves.proofs.Putting.{left-long}
+use Rattle.texts.proofs.Putting.{turns-start}
+use Rattle.texts.proofs.Sheets.{passing-sheet, Listing, listing-room, listing-column, listing-turn, listing-end}
+use borrow.Author.Rules.{rules}
+use Rattle.texts.proofs.put_columns.Goals as goal
+
+pub column_count-columns-requires : goal.column_count-columns-requires
+column_count-columns-requires c = (passing-sheet c.requires.0).least
+
+pub loop-k-init : goal.loop-k-init
+loop-k-init c =
+    record {
+      passing = c.requires.0;
+      c = c.column_count-columns.ensures.0;
+      works = refl;
+      lists = refl;
+      early = c.requires.1;
+      turns = turns-start _ _ _ _ _;
+    }
+
+pub put_column-to-requires : goal.put_column-to-requires
+put_column-to-requires c =
+    let l = c.loop-k.invariant in
+    (listing-column l c.loop-k-test.true, listing-room l)
+
+pub loop-k-preserved : goal.loop-k-preserved
+loop-k-preserved c =
+    listing-turn c.loop-k.invariant c.loop-k-test.true c.put_column-to.kept.1.1.0 c.put_column-to.kept.1.1.1.0
+    c.put_column-to.ensures
+
+pub shape_of-work : goal.shape_of-work
+shape_of-work c = c.loop-k.invariant.works
+
+pub shape_of-list : goal.shape_of-list
+shape_of-list c = c.loop-k.invariant.lists
+
+pub shape_of-out : goal.shape_of-out
+shape_of-out c = left-long c.loop-k.invariant.turns.left
+
+pub returns : goal.returns
+returns c = listing-end c.loop-k.invariant c.loop-k-test.false

@@ -1,0 +1,23 @@
+-- The number of columns, the columns, and the end. Assumes only the laws of the codes.
+use native.Mathlib.Omega.{arith}
+use Rattle.meaning.specs.Texts.{text}
+use Rattle.texts.proofs.Lines.{line_first, line-last}
+use Rattle.texts.proofs.Sheets.{passing-sheet, sheet-lines}
+use borrow.Author.Rules.{rules}
+use Rattle.texts.proofs.put_sheet.Goals as goal
+
+pub column_count-columns-requires : goal.column_count-columns-requires
+column_count-columns-requires c = (passing-sheet c.requires.0).least
+
+pub returns : goal.returns
+unfolding text
+returns c =
+    let count = c.put_line-first.ensures in
+    let columns = c.put_columns-second.ensures in
+    let word = c.put_word-third.ensures in
+    let end = c.put_end.ensures in
+    let last = line_first word (line-last end) in
+    record {
+      wrote = sheet-lines c.args.sheet.now c.column_count-columns.ensures.0 count.wrote columns.wrote last;
+      short = omega arith;
+    }

@@ -1,0 +1,15 @@
+-- `sum_of` has the sum of the counts below k. Assumes nothing.
+use Prim.Native.Nat.{◌-◌}
+use lib.ListN.{length}
+use borrow.Author.Rules.{rules}
+use Rattle.writer.proofs.Sums.{Summing, summing_start, summing-turn, summing-end}
+use Rattle.writer.proofs.slices.sum_of.Goals as goal
+
+pub loop-k-init : goal.loop-k-init
+loop-k-init c = summing_start
+
+pub loop-k-preserved : goal.loop-k-preserved
+loop-k-preserved c = summing-turn c.loop-k.invariant c.loop-k-test.true c.whole-s.ensures.0 c.whole-s.ensures.1
+
+pub returns : goal.returns
+returns c = summing-end c.loop-k.invariant c.loop-k-test.false
