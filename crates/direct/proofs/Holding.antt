@@ -14,7 +14,8 @@ use Rattle.meaning.specs.Bits.{low_bits, zeros_first}
 use Rattle.meaning.specs.Bytes.{number_of, word_at}
 use Rattle.meaning.specs.Codes.{always}
 use Rattle.meaning.specs.DataBytes.{byte_length, fewest, data_bytes, data_in}
-use Rattle.meaning.specs.Direct.{flag_bytes, sum_count, sums_at, data_at, last_bits, parts_fit, flags, number_in, unit_direct, true_sums, spare_zero, done_direct}
+use Rattle.meaning.specs.Direct.{flag_bytes, sum_count, sums_at, data_at, last_bits, parts_fit, flags, number_in}
+use Rattle.meaning.specs.Direct.{unit_direct, true_sums, spare_zero, done_direct}
 use Rattle.meaning.specs.Limits.{cut_short, broken, number_limit}
 use Rattle.meaning.specs.Lists.{sum, joined}
 use Rattle.meaning.specs.Places.{Below}
@@ -97,7 +98,8 @@ pub record Numbered (body : List ℕ) (i l x : ℕ) : Type 0 where
   pub is : take l (drop (data_at (word_at body 0) + i) body) ≡ fewest x
   pub small : x < number_limit
 
-pub numbered : (body : List ℕ) (i l x : ℕ) → Below 256 body → data_at (word_at body 0) + i + l ≤ length body → number_in body i l ≡ given x → Numbered body i l x
+pub numbered : (body : List ℕ) (i l x : ℕ) → Below 256 body → data_at (word_at body 0) + i + l ≤ length body → number_in body i l ≡ given x
+    → Numbered body i l x
 unfolding number_in data_in sum data_bytes joined
 numbered body i l x b h e =
     let bytes = drop (data_at (word_at body 0) + i) body in

@@ -7,7 +7,8 @@ use lib.ListN.{length}
 use Rattle.meaning.specs.Answer.{given}
 use Rattle.meaning.specs.Codes.{code_direct, read_code, always}
 use Rattle.meaning.specs.DataBytes.{data_bytes}
-use Rattle.meaning.specs.Direct.{flag_bytes, sum_count, sums_at, data_at, last_bits, write_direct, worst_direct, parts_fit, unit_direct, done_direct, look_direct}
+use Rattle.meaning.specs.Direct.{flag_bytes, sum_count, sums_at, data_at, last_bits, write_direct, worst_direct}
+use Rattle.meaning.specs.Direct.{parts_fit, unit_direct, done_direct, look_direct}
 use Rattle.meaning.specs.Limits.{cut_short, number_limit, most_numbers}
 use Rattle.meaning.specs.Lists.{joined}
 use Rattle.meaning.specs.Places.{Below}

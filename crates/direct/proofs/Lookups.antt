@@ -173,7 +173,8 @@ module _ (body xs : List ℕ) (h : Holds body 0 xs) (place : ℕ) (inside : plac
       rw (h.closed.fit, before, g, ← at) ending
     where
       -- a sum above the place, or all the bits
-      reached : (s : ℕ) → s ≤ sum_count (word_at body 0) → (s < sum_count (word_at body 0) → place < sum_at body s) → place < ones_before (flags body) (512 * s + 512)
+      reached : (s : ℕ) → s ≤ sum_count (word_at body 0) → (s < sum_count (word_at body 0) → place < sum_at body s)
+          → place < ones_before (flags body) (512 * s + 512)
       reached s most above =
           by_order s (sum_count (word_at body 0))
           (λ less. let e : 512 * s + 512 ≡ 512 * suc s = omega arith in

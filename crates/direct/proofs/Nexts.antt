@@ -83,11 +83,11 @@ module _ {body : List ℕ} {d : ℕ} (fit : Fit body d) (i : ℕ) {len : ℕ} (e
 abbrev one_unit : ℕ × ℕ → Answer (Position × List ℕ)
 one_unit t = given (at_bit t.1, t.0 ∷ [])
 
-one_unit : (b : Bool) (m : Answer ℕ) (after : ℕ)
+one_unit-need : (b : Bool) (m : Answer ℕ) (after : ℕ)
     → need b broken (bind m (λ x. one_unit (x, after))) ≡ bind (need {A = ℕ × ℕ} b broken (bind m (λ x. given (x, after)))) one_unit
-one_unit true (given x) after = refl
-one_unit true (refused e) after = refl
-one_unit false m after = refl
+one_unit-need true (given x) after = refl
+one_unit-need true (refused e) after = refl
+one_unit-need false m after = refl
 
 module _ (body : List ℕ) (left : ℕ) (p : Position) where
   pub unit-unfit : parts_fit body ≡ false → unit_direct body left p ≡ refused cut_short
@@ -99,7 +99,7 @@ module _ (body : List ℕ) (left : ℕ) (p : Position) where
   unit-is e =
       let i = p.bit.index in
       let l = suc (behind body i) in
-      rw e (one_unit (leb (i + l) (word_at body 0)) (number_in body i l) (i + l))
+      rw e (one_unit-need (leb (i + l) (word_at body 0)) (number_in body i l) (i + l))
 
   module _ {d : ℕ} (fit : Fit body d) (r : Next) (told : next_says r ≡ next_in body p.bit.index) where
     unit-told : unit_direct body left p ≡ bind (next_says r) one_unit

@@ -30,7 +30,8 @@ module _ (bits : List ℕ) where
   unfolding count_trailing_zeros bits_low zeros_first
   first-zeros k zero n few h = absurd (omega arith)
   first-zeros zero (suc m) n few h = absurd (omega arith)
-  first-zeros (suc k) (suc m) n few h = by_bit (n % 2) (count_trailing_zeros k (n / 2)) (bits_low m (n / 2) ++ bits) h (λ l. first-zeros k m (n / 2) (omega arith) l)
+  first-zeros (suc k) (suc m) n few h =
+      by_bit (n % 2) (count_trailing_zeros k (n / 2)) (bits_low m (n / 2) ++ bits) h (λ l. first-zeros k m (n / 2) (omega arith) l)
     where
       by_bit : (b t : ℕ) (rest : List ℕ) → under b t < suc m → (t < m → zeros_first rest ≡ t) → zeros_first (b ∷ rest) ≡ under b t
       by_bit zero t rest h g = ap suc (g (omega arith))
@@ -75,7 +76,8 @@ module _ (bytes : List ℕ) (bound : Below 256 bytes) (two : 2 ≤ length bytes)
       ap (drop r) whole ∙ drop_at before (near ++ (far ++ rest)) r (bits-length r (pair % 2 ^ r))
 
   -- some of these bits, of which the first four tell the zeros
-  pair-zeros : (n : ℕ) → 4 ≤ n → count_trailing_zeros 32 (pair / 2 ^ r) < 4 → zeros_first (take n (drop r (low_bits bytes))) ≡ count_trailing_zeros 32 (pair / 2 ^ r)
+  pair-zeros : (n : ℕ) → 4 ≤ n → count_trailing_zeros 32 (pair / 2 ^ r) < 4
+      → zeros_first (take n (drop r (low_bits bytes))) ≡ count_trailing_zeros 32 (pair / 2 ^ r)
   pair-zeros n few h = ap (λ (l : List ℕ). zeros_first (take n l)) four-bits ∙ cut-zeros (pair / 2 ^ r) later n few h
 
 module _ {body : List ℕ} {d : ℕ} (fit : Fit body d) (bound : Below 256 body) (i : ℕ) (inside : i + 4 ≤ d) where

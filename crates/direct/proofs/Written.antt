@@ -198,7 +198,8 @@ written_small xs = parts-small (length (data_bytes xs)) (joined last_bits xs) (d
 
 -- ---- a body that was read
 -- its bits packed again are its own
-bits_back : (body : List ℕ) → Below 256 body → Closed body → pack_low (flag_bytes (word_at body 0)) (flags body) ≡ take (flag_bytes (word_at body 0)) (drop 4 body)
+bits_back : (body : List ℕ) → Below 256 body → Closed body
+    → pack_low (flag_bytes (word_at body 0)) (flags body) ≡ take (flag_bytes (word_at body 0)) (drop 4 body)
 unfolding flags spare_zero flag_bytes data_at sums_at
 bits_back body b h =
     let d = word_at body 0 in

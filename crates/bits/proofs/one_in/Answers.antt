@@ -3,28 +3,29 @@ use Prim.Native.Nat.{◌<◌}
 use mathlib.Core.Path.{sym}
 use native.Mathlib.Omega.{arith}
 use Rattle.bits.proofs.Finding.{InSo, none_in, word_holds, one-small, one_found}
-use borrow.Author.Rules.{rules}
 use Rattle.bits.proofs.one_in.Goals as goal
 
-abbrev start_of : tie.After-pass-words → tie.Start
-start_of c = c.before.before
-
-passing : (c : tie.After-pass-words)
-    → InSo (start_of c).args.bytes.now (start_of c).args.from.byte (start_of c).args.words (start_of c).args.k c.pass-words.result
-passing c = record { small = λ i. (c.before.shared-slice-known.given i).fits; passes = c.pass-words.ensures }
-
--- where not all are passed, fewer are
-fewer : (c : tie.Else1) → c.before.pass-words.result.words < (start_of c.before).args.words
-fewer c = omega (arith, c.before.pass-words.ensures.most, c.if1.false)
-
 pub returns-then-before-words : goal.returns-then-before-words
-returns-then-before-words c = sym (none_in (passing c) c.if-before-words.true)
+returns-then-before-words c =
+    sym (none_in record { small = λ i. (c.type_inv.bytes i).fits; passes = c.pass_words-passed.ensures } c.if-before-words.true)
 
 pub bit_in-requires : goal.bit_in-requires
-bit_in-requires c = word_holds (passing c) (fewer c) c.word_near-word.ensures
+bit_in-requires c =
+    let passing : InSo c.args.bytes.now c.args.from.byte c.args.words c.args.k c.pass_words-passed.result =
+    record { small = λ i. (c.type_inv.bytes i).fits; passes = c.pass_words-passed.ensures } in
+    let fewer : c.pass_words-passed.result.words < c.args.words = omega (arith, c.pass_words-passed.ensures.most, c.if-before-words.false) in
+    word_holds passing fewer c.word_near-word.ensures
 
 pub overflow_add-index : goal.overflow_add-index
-overflow_add-index c = omega (arith, c.requires, fewer c, one-small (passing c) (fewer c) c.word_near-word.ensures c.bit_in.ensures)
+overflow_add-index c =
+    let passing : InSo c.args.bytes.now c.args.from.byte c.args.words c.args.k c.pass_words-passed.result =
+    record { small = λ i. (c.type_inv.bytes i).fits; passes = c.pass_words-passed.ensures } in
+    let fewer : c.pass_words-passed.result.words < c.args.words = omega (arith, c.pass_words-passed.ensures.most, c.if-before-words.false) in
+    omega (arith, c.requires, fewer, one-small passing fewer c.word_near-word.ensures c.bit_in.ensures)
 
 pub returns : goal.returns
-returns c = one_found (passing c) (fewer c) c.word_near-word.ensures c.bit_in.ensures
+returns c =
+    let passing : InSo c.args.bytes.now c.args.from.byte c.args.words c.args.k c.pass_words-passed.result =
+    record { small = λ i. (c.type_inv.bytes i).fits; passes = c.pass_words-passed.ensures } in
+    let fewer : c.pass_words-passed.result.words < c.args.words = omega (arith, c.pass_words-passed.ensures.most, c.if-before-words.false) in
+    one_found passing fewer c.word_near-word.ensures c.bit_in.ensures

@@ -1,12 +1,9 @@
 -- `select` passes stretches of 8 words, and finds the bit in the one that holds it (`SelectSo`). Assumes nothing.
-use Prim.Native.Nat.{◌-◌}
 use mathlib.Core.Path.{sym, ap, ◌∙◌}
 use native.Mathlib.Omega.{arith}
-use lib.ListN.{length}
 use Rattle.meaning.specs.Says.{selected_says}
 use Rattle.bits.proofs.Asked.{select-long}
-use Rattle.bits.proofs.Selecting.{SelectSo, select-start, select-turn, select-inside, select-found, select-holds, select-end}
-use borrow.Author.Rules.{rules}
+use Rattle.bits.proofs.Selecting.{select-start, select-turn, select-inside, select-found, select-holds, select-end}
 use Rattle.bits.proofs.select.Goals as goal
 
 pub returns-then-len-gt-MOST_BYTES : goal.returns-then-len-gt-MOST_BYTES
@@ -16,7 +13,7 @@ pub loop-byte-init : goal.loop-byte-init
 loop-byte-init c = select-start c.if-len-gt-MOST_BYTES.false
 
 pub ones_in-ones-requires : goal.ones_in-ones-requires
-ones_in-ones-requires c = c.loop-byte.invariant in omega (arith, so.short, so.near)
+ones_in-ones-requires c = let so = c.loop-byte.invariant in omega (arith, so.short, so.near)
 
 pub one_in-requires : goal.one_in-requires
 one_in-requires c =
@@ -26,7 +23,7 @@ one_in-requires c =
 -- a stretch with enough ones holds the one that is looked for
 pub returns-in_default : goal.returns-in_default
 returns-in_default c =
-    absurd (select-holds c.loop-byte.invariant c.ones_in_lem.ensures c.if-left-ones.true
+    absurd (select-holds c.loop-byte.invariant c.ones_in-ones.ensures c.if-left-ones.true
     (sym c.one_in.ensures ∙ ap selected_says c.in_default.is))
 
 pub overflow_mul-index : goal.overflow_mul-index
@@ -48,7 +45,7 @@ overflow_add-byte c =
     omega (arith, so.short, so.near)
 
 pub loop-byte-preserved : goal.loop-byte-preserved
-loop-byte-preserved c = select-turn c.loop-byte.invariant c.loop-byte-test.true c.ones_in_lem.ensures c.if-left-ones.false
+loop-byte-preserved c = select-turn c.loop-byte.invariant c.loop-byte-test.true c.ones_in-ones.ensures c.if-left-ones.false
 
 pub returns : goal.returns
 returns c = select-end c.loop-byte.invariant c.loop-byte-test.false

@@ -1,6 +1,5 @@
 -- `spare_zero` meets its contract: the spare bits are those of the last byte of bits. Assumes nothing.
 use native.Mathlib.Omega.{arith}
-use borrow.Author.Rules.{rules}
 use Rattle.direct.proofs.Dones.{spare-none, spare-last}
 use Rattle.direct.proofs.Fits.{standing}
 use Rattle.direct.proofs.spare_zero.Goals as goal

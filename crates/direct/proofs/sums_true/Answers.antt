@@ -1,10 +1,8 @@
 -- `sums_true` meets its contract: each turn adds a stretch's ones. Assumes nothing.
-use Prim.Native.Nat.{◌-◌}
 use mathlib.Core.Path.{sym, ◌∙◌}
 use native.Mathlib.Omega.{arith}
-use borrow.Author.Rules.{rules}
 use Rattle.meaning.specs.Direct.{sum_count}
-use Rattle.direct.proofs.Dones.{Adding, adding-start, stretch-inside, ones-fit, adding-false, adding-turn, adding-end}
+use Rattle.direct.proofs.Dones.{adding-start, stretch-inside, ones-fit, adding-false, adding-turn, adding-end}
 use Rattle.direct.proofs.sums_true.Goals as goal
 
 pub loop-s-init : goal.loop-s-init
@@ -14,7 +12,7 @@ pub ones_in-ones-requires : goal.ones_in-ones-requires
 ones_in-ones-requires c = omega (arith, stretch-inside c.loop-s.invariant c.loop-s-test.true, c.loop-s.invariant.short)
 
 pub overflow_add-ones : goal.overflow_add-ones
-overflow_add-ones c = omega (arith, ones-fit c.loop-s.invariant c.loop-s-test.true c.ones_in_lem.ensures)
+overflow_add-ones c = omega (arith, ones-fit c.loop-s.invariant c.loop-s-test.true c.ones_in-ones.ensures)
 
 pub sum_at-requires : goal.sum_at-requires
 unfolding sum_count
@@ -22,12 +20,12 @@ sum_at-requires c = (c.loop-s.invariant.fit, c.loop-s-test.true)
 
 pub returns-then-sum_at-ones : goal.returns-then-sum_at-ones
 returns-then-sum_at-ones c =
-    adding-false c.loop-s.invariant c.loop-s-test.true c.ones_in_lem.ensures
+    adding-false c.loop-s.invariant c.loop-s-test.true c.ones_in-ones.ensures
     (λ e. c.if-sum_at-ones.true (c.sum_at.ensures ∙ e))
 
 pub loop-s-preserved : goal.loop-s-preserved
 loop-s-preserved c =
-    adding-turn c.loop-s.invariant c.loop-s-test.true c.ones_in_lem.ensures (sym c.sum_at.ensures ∙ c.if-sum_at-ones.false)
+    adding-turn c.loop-s.invariant c.loop-s-test.true c.ones_in-ones.ensures (sym c.sum_at.ensures ∙ c.if-sum_at-ones.false)
 
 pub returns : goal.returns
 returns c = adding-end c.loop-s.invariant c.loop-s-test.false

@@ -1,10 +1,6 @@
 -- `sums_true` meets its contract: each turn adds a stretch's ones. Assumes nothing.
 use Prim.Native.Nat.{◌-◌}
-use mathlib.Core.Path.{sym, ◌∙◌}
-use native.Mathlib.Omega.{arith}
-use borrow.Author.Rules.{rules}
-use Rattle.meaning.specs.Direct.{sum_count}
-use Rattle.direct.proofs.Dones.{Adding, adding-start, stretch-inside, ones-fit, adding-false, adding-turn, adding-end}
+use Rattle.direct.proofs.Dones.{Adding}
 use Rattle.direct.proofs.sums_true.Given as goal
 
 abbrev pub invariant-loop-s : goal.invariant-loop-s

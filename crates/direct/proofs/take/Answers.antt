@@ -1,13 +1,11 @@
 -- `take` meets its contract: after the plain numbers each turn takes one. Assumes nothing.
-use Prim.Native.Nat.{◌-◌}
 use mathlib.Core.List.{[]}
 use native.Mathlib.Omega.{arith}
-use borrow.Author.Rules.{rules}
 use Rattle.meaning.specs.Codes.{code_direct}
 use Rattle.meaning.proofs.Codes.{spare-always}
 use Rattle.meaning.proofs.Taking.{took-none}
 use Rattle.direct.proofs.Fits.{heading-fits}
-use Rattle.direct.proofs.Nexts.{target-within, begun-long, Onward, onward-start, onward-turn, onward-end, onward-long}
+use Rattle.direct.proofs.Nexts.{target-within, begun-long, onward-start, onward-turn, onward-end, onward-long}
 use Rattle.direct.proofs.take.Goals as goal
 
 pub returns-in_default : goal.returns-in_default
@@ -20,7 +18,7 @@ take_plain-begun-requires c =
 pub loop-i-init : goal.loop-i-init
 loop-i-init c =
     let fit = heading-fits _ c.heading_of.ensures c.in-Data.is in
-    onward-start fit (omega (arith, c.good, c.requires.inside, c.lesser-most.ensures))
+    onward-start fit (omega (arith, c.requires.inside, c.lesser-most.ensures))
     (omega (arith, c.requires.inside, c.lesser-most.ensures, begun-long c.take_plain-begun.ensures))
 
 -- ---- a turn

@@ -1,13 +1,6 @@
 -- `take` meets its contract: after the plain numbers each turn takes one. Assumes nothing.
 use Prim.Native.Nat.{◌-◌}
-use mathlib.Core.List.{[]}
-use native.Mathlib.Omega.{arith}
-use borrow.Author.Rules.{rules}
-use Rattle.meaning.specs.Codes.{code_direct}
-use Rattle.meaning.proofs.Codes.{spare-always}
-use Rattle.meaning.proofs.Taking.{took-none}
-use Rattle.direct.proofs.Fits.{heading-fits}
-use Rattle.direct.proofs.Nexts.{target-within, begun-long, Onward, onward-start, onward-turn, onward-end, onward-long}
+use Rattle.direct.proofs.Nexts.{Onward}
 use Rattle.direct.proofs.take.Given as goal
 
 abbrev pub invariant-loop-i : goal.invariant-loop-i

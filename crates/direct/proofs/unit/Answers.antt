@@ -1,7 +1,6 @@
 -- `unit` meets its contract: the unit is the number whose first byte is there. Assumes nothing.
 use mathlib.Core.Path.{refl, sym, ◌∙◌}
 use native.Mathlib.Omega.{arith}
-use borrow.Author.Rules.{rules}
 use Rattle.direct.proofs.Fits.{heading-fits, heading-none}
 use Rattle.direct.proofs.Nexts.{unit-unfit, unit-given, unit-refused}
 use Rattle.direct.proofs.unit.Goals as goal

@@ -1,9 +1,7 @@
 -- The bits that hold the one are halved until one is left (`HalfSo`). Assumes nothing.
-use mathlib.Core.Logic.{⊎_elim}
 use native.Mathlib.Omega.{arith}
-use Rattle.meaning.specs.Limits.{no_place}
-use Rattle.bits.proofs.Halves.{HalfSo, half-start, halved, mask-some, half-few, half-lower, half-upper, half-end}
-use borrow.Author.Rules.{rules}
+use Rattle.bits.proofs.Halves.{half-start, halved, mask-some, half-few, half-lower, half-upper, half-end}
+use Rattle.bits.proofs.words_of.bit_in.Goals.{then-ones-left, else-ones-left}
 use Rattle.bits.proofs.words_of.bit_in.Goals as goal
 
 pub loop-half-init : goal.loop-half-init
@@ -29,10 +27,10 @@ overflow_shr-rest c = omega (arith, (halved c.loop-half.invariant c.loop-half-te
 pub loop-half-preserved : goal.loop-half-preserved
 loop-half-preserved c =
     let so = halved c.loop-half.invariant c.loop-half-test.true in
-    ⊎_elim
-    (λ w. rw (w.1, w.2, w.3) (half-upper so (omega (arith, w.0.taken))))
-    (λ w. rw (w.1, w.2, w.3) (half-lower so w.0.left))
-    c.if-ones-left.branch
+    elim c.if-ones-left.branch [
+      | then-ones-left w ↦ rw (w.rest-is, w.left-is, w.bit-is) (half-upper so (omega (arith, w.if-ones-left.true)))
+      | else-ones-left w ↦ rw (w.rest-is, w.left-is, w.bit-is) (half-lower so w.if-ones-left.false)
+    ]
 
 pub returns : goal.returns
 returns c = half-end c.loop-half.invariant c.loop-half-test.false

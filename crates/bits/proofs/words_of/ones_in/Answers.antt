@@ -1,8 +1,6 @@
 -- The words are counted one by one (`CountSo`). Assumes nothing.
-use Prim.Native.Nat.{◌-◌}
 use native.Mathlib.Omega.{arith}
-use Rattle.bits.proofs.Counts.{CountSo, count-start, count-few, word-few, count_turn, count-end}
-use borrow.Author.Rules.{rules}
+use Rattle.bits.proofs.Counts.{count-start, count-few, word-few, count_turn, count-end}
 use Rattle.bits.proofs.words_of.ones_in.Goals as goal
 
 pub loop-i-init : goal.loop-i-init

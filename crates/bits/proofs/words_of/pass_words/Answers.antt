@@ -1,8 +1,6 @@
 -- The words are counted one by one, and those that end before the k-th one are passed (`PassSo`). Assumes nothing.
-use Prim.Native.Nat.{◌-◌}
 use native.Mathlib.Omega.{arith}
-use Rattle.bits.proofs.Counts.{PassSo, pass-start, pass-turn, pass-stay, pass-end, count-few, word-few}
-use borrow.Author.Rules.{rules}
+use Rattle.bits.proofs.Counts.{pass-start, pass-turn, pass-stay, pass-end, count-few, word-few}
 use Rattle.bits.proofs.words_of.pass_words.Goals as goal
 
 pub loop-i-init : goal.loop-i-init

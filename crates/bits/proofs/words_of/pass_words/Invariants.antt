@@ -1,8 +1,6 @@
 -- The words are counted one by one, and those that end before the k-th one are passed (`PassSo`). Assumes nothing.
 use Prim.Native.Nat.{◌-◌}
-use native.Mathlib.Omega.{arith}
-use Rattle.bits.proofs.Counts.{PassSo, pass-start, pass-turn, pass-stay, pass-end, count-few, word-few}
-use borrow.Author.Rules.{rules}
+use Rattle.bits.proofs.Counts.{PassSo}
 use Rattle.bits.proofs.words_of.pass_words.Given as goal
 
 abbrev pub invariant-loop-i : goal.invariant-loop-i

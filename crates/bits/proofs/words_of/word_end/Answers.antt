@@ -2,8 +2,7 @@
 use Prim.Native.Nat.{◌-◌}
 use mathlib.Core.Path.{refl}
 use native.Mathlib.Omega.{arith}
-use Rattle.bits.proofs.Ends.{EndSo, end-start, end_fits, end-turn, end-end}
-use borrow.Author.Rules.{rules}
+use Rattle.bits.proofs.Ends.{end-start, end_fits, end-turn, end-end}
 use Rattle.bits.proofs.words_of.word_end.Goals as goal
 
 pub loop-i-init : goal.loop-i-init

@@ -1,7 +1,6 @@
 -- The data stands after the sums. Assumes nothing.
 use native.Mathlib.Omega.{arith}
 use Rattle.meaning.specs.Direct.{flag_bytes, sum_count, sums_at, data_at}
-use borrow.Author.Rules.{rules}
 use Rattle.direct.proofs.input.data_at.Goals as goal
 
 pub overflow_add-result : goal.overflow_add-result

@@ -1,7 +1,6 @@
 -- `heading_of` meets its contract: each test is a law's premise. Assumes nothing.
 use mathlib.Core.Path.{◌∙◌}
 use native.Mathlib.Omega.{arith}
-use borrow.Author.Rules.{rules}
 use Rattle.meaning.specs.Direct.{flag_bytes, sum_count, sums_at, data_at}
 use Rattle.direct.proofs.Fits.{head-short, head-cut, head-fits}
 use Rattle.direct.proofs.input.heading_of.Goals as goal

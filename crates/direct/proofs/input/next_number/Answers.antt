@@ -1,6 +1,5 @@
 -- `next_number` meets its contract: its zeros say how many bytes the number has. Assumes nothing.
 use native.Mathlib.Omega.{arith}
-use borrow.Author.Rules.{rules}
 use Rattle.direct.proofs.Fits.{data-few}
 use Rattle.direct.proofs.Nexts.{next-none, next-given, next-refused}
 use Rattle.direct.proofs.input.next_number.Goals as goal

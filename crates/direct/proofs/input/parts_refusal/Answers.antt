@@ -1,6 +1,5 @@
 -- The heading's refusal says whether the parts fit. Assumes nothing.
 use mathlib.Core.Path.{◌∙◌}
-use borrow.Author.Rules.{rules}
 use Rattle.direct.proofs.Fits.{heading-refusal}
 use Rattle.direct.proofs.input.parts_refusal.Goals as goal
 

@@ -1,28 +1,20 @@
 -- `sum_at` meets its contract: a stretch's two bytes lie between the bits and the data. Assumes nothing.
-use Prim.Native.Nat.{◌<◌, ◌^◌}
 use mathlib.Core.Path.{◌∙◌}
 use native.Mathlib.Omega.{arith}
-use borrow.Author.Rules.{rules}
 use Rattle.meaning.specs.Direct.{flag_bytes, sum_count, sums_at, sum_at}
 use Rattle.direct.proofs.Fits.{standing, data-few}
 use Rattle.direct.proofs.input.sum_at.Goals as goal
 
--- the header's number is below 2^32
-few : (c : tie.After-shared-slice-known) → (start_of c).args.d < 2 ^ 32
-unfolding start_of
-few c = data-few (start_of c).requires.0 (λ i. (c.shared-slice-known.given i).fits)
-
 pub sums_at-requires : goal.sums_at-requires
-unfolding start_of
-sums_at-requires c = omega (arith, few c)
+sums_at-requires c = omega (arith, data-few c.requires.0 (λ i. (c.type_inv.body i).fits))
 
 pub overflow_mul-byte : goal.overflow_mul-byte
-unfolding start_of sum_count
-overflow_mul-byte c = omega (arith, few c, c.requires.1)
+unfolding sum_count
+overflow_mul-byte c = omega (arith, data-few c.requires.0 (λ i. (c.type_inv.body i).fits), c.requires.1)
 
 pub overflow_add-byte : goal.overflow_add-byte
-unfolding start_of sums_at flag_bytes sum_count
-overflow_add-byte c = omega (arith, few c, c.requires.1, c.sums_at.ensures)
+unfolding sums_at flag_bytes sum_count
+overflow_add-byte c = omega (arith, data-few c.requires.0 (λ i. (c.type_inv.body i).fits), c.requires.1, c.sums_at.ensures)
 
 pub number_at-requires : goal.number_at-requires
 unfolding sums_at flag_bytes sum_count

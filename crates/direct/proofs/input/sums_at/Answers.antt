@@ -1,7 +1,6 @@
 -- The sums stand after the header and the bits. Assumes nothing.
 use mathlib.Core.Path.{refl}
 use Rattle.meaning.specs.Direct.{flag_bytes, sums_at}
-use borrow.Author.Rules.{rules}
 use Rattle.direct.proofs.input.sums_at.Goals as goal
 
 pub returns : goal.returns

@@ -1,10 +1,7 @@
 -- `zeros_before` meets its contract: each turn counts one zero. Assumes nothing.
-use Prim.Native.Nat.{◌-◌}
 use mathlib.Core.Path.{sym, ◌∙◌}
 use native.Mathlib.Omega.{arith}
-use borrow.Author.Rules.{rules}
-use borrow.Author.Tests.{not-true, not-false}
-use Rattle.direct.proofs.Zeros.{Upto, upto-start, upto-none, upto-stop, upto-full, upto_turn}
+use Rattle.direct.proofs.Zeros.{upto-start, upto-none, upto-stop, upto-full, upto_turn}
 use Rattle.direct.proofs.input.zeros_before.Goals as goal
 
 pub loop-zeros-init : goal.loop-zeros-init
@@ -18,11 +15,11 @@ clear-requires c = (c.loop-zeros.invariant.fit, omega (arith, c.loop-zeros.invar
 
 pub returns-then-not-clear : goal.returns-then-not-clear
 returns-then-not-clear c =
-    upto-stop c.loop-zeros.invariant c.loop-zeros-test.true c.if-end-zeros.false (sym c.clear.ensures ∙ not-true _ c.if-not-clear.true)
+    upto-stop c.loop-zeros.invariant c.loop-zeros-test.true c.if-end-zeros.false (sym c.clear.ensures ∙ c.if-not-clear.true)
 
 pub loop-zeros-preserved : goal.loop-zeros-preserved
 loop-zeros-preserved c =
-    upto_turn c.loop-zeros.invariant c.loop-zeros-test.true c.if-end-zeros.false (sym c.clear.ensures ∙ not-false _ c.if-not-clear.false)
+    upto_turn c.loop-zeros.invariant c.loop-zeros-test.true c.if-end-zeros.false (sym c.clear.ensures ∙ c.if-not-clear.false)
 
 pub returns : goal.returns
 returns c = upto-full c.loop-zeros.invariant c.loop-zeros-test.false

@@ -1,10 +1,6 @@
 -- `zeros_before` meets its contract: each turn counts one zero. Assumes nothing.
 use Prim.Native.Nat.{◌-◌}
-use mathlib.Core.Path.{sym, ◌∙◌}
-use native.Mathlib.Omega.{arith}
-use borrow.Author.Rules.{rules}
-use borrow.Author.Tests.{not-true, not-false}
-use Rattle.direct.proofs.Zeros.{Upto, upto-start, upto-none, upto-stop, upto-full, upto_turn}
+use Rattle.direct.proofs.Zeros.{Upto}
 use Rattle.direct.proofs.input.zeros_before.Given as goal
 
 abbrev pub invariant-loop-zeros : goal.invariant-loop-zeros

@@ -1,10 +1,7 @@
 -- `zeros_from` meets its contract: each turn counts one zero. Assumes nothing.
-use Prim.Native.Nat.{◌-◌}
 use mathlib.Core.Path.{sym, ◌∙◌}
 use native.Mathlib.Omega.{arith}
-use borrow.Author.Rules.{rules}
-use borrow.Author.Tests.{not-true, not-false}
-use Rattle.direct.proofs.Zeros.{From, from_start, from-none, from-stop, from-full, from-turn}
+use Rattle.direct.proofs.Zeros.{from_start, from-none, from-stop, from-full, from-turn}
 use Rattle.direct.proofs.input.zeros_from.Goals as goal
 
 pub loop-zeros-init : goal.loop-zeros-init
@@ -17,11 +14,11 @@ pub clear-requires : goal.clear-requires
 clear-requires c = (c.loop-zeros.invariant.fit, omega arith)
 
 pub returns-then-not-clear : goal.returns-then-not-clear
-returns-then-not-clear c = from-stop c.loop-zeros.invariant c.if-d-index.false (sym c.clear.ensures ∙ not-true _ c.if-not-clear.true)
+returns-then-not-clear c = from-stop c.loop-zeros.invariant c.if-d-index.false (sym c.clear.ensures ∙ c.if-not-clear.true)
 
 pub loop-zeros-preserved : goal.loop-zeros-preserved
 loop-zeros-preserved c =
-    from-turn c.loop-zeros.invariant c.loop-zeros-test.true c.if-d-index.false (sym c.clear.ensures ∙ not-false _ c.if-not-clear.false)
+    from-turn c.loop-zeros.invariant c.loop-zeros-test.true c.if-d-index.false (sym c.clear.ensures ∙ c.if-not-clear.false)
 
 pub returns : goal.returns
 returns c = from-full c.loop-zeros.invariant c.loop-zeros-test.false

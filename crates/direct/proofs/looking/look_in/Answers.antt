@@ -1,7 +1,6 @@
 -- `look_in` meets its contract: the stretch by the sums, the bit by the words that hold the stretch. Assumes nothing.
 use mathlib.Core.Path.{◌∙◌}
 use native.Mathlib.Omega.{arith}
-use borrow.Author.Rules.{rules}
 use Rattle.direct.proofs.Fits.{standing}
 use Rattle.direct.proofs.Looks.{stretch-within, look_none, found-few, look-behind, look-here}
 use Rattle.direct.proofs.looking.look_in.Goals as goal

@@ -1,6 +1,5 @@
 -- `lookup` meets its contract: the header first. Assumes nothing.
 use mathlib.Core.Path.{◌∙◌}
-use borrow.Author.Rules.{rules}
 use Rattle.direct.proofs.Fits.{heading-fits, heading-none}
 use Rattle.direct.proofs.Looks.{look-unfit, look-fits}
 use Rattle.direct.proofs.looking.lookup.Goals as goal

@@ -1,8 +1,6 @@
 -- `stretch_of` meets its contract: each turn passes one sum. Assumes nothing.
 use Prim.Native.Nat.{◌-◌}
-use borrow.Author.Rules.{rules}
-use Rattle.meaning.specs.Direct.{sum_count}
-use Rattle.direct.proofs.Looks.{Passing, passing-start, passing-here, passing-turn, passing-end}
+use Rattle.direct.proofs.Looks.{Passing}
 use Rattle.direct.proofs.looking.stretch_of.Given as goal
 
 abbrev pub invariant-loop-s : goal.invariant-loop-s

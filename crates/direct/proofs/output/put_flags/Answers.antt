@@ -1,9 +1,6 @@
 -- The bits of a number wait until they fill a byte, which is then put. Assumes nothing.
-use Prim.Native.Nat.{◌-◌, ◌<◌}
-use mathlib.Core.Path.{◌∙◌}
 use native.Mathlib.Omega.{arith}
-use borrow.Author.Rules.{rules}
-use Rattle.direct.proofs.Flags.{FlagSo, flag-start, flag-long, flag-near, flag-some, flag-few, flag-fits, flag-more, flag-full, flag-end, flag-end-none}
+use Rattle.direct.proofs.Flags.{flag-start, flag-long, flag-near, flag-some, flag-few, flag-fits, flag-more, flag-full, flag-end, flag-end-none}
 use Rattle.direct.proofs.output.put_flags.Goals as goal
 
 pub loop-i-init : goal.loop-i-init
@@ -56,9 +53,6 @@ pub overflow_add-to-then-count-gt0 : goal.overflow_add-to-then-count-gt0
 overflow_add-to-then-count-gt0 c =
     let inv = c.loop-i.invariant.1 in
     omega (arith, inv.short, flag-near inv)
-
-pub shape_of-out-then-count-gt0 : goal.shape_of-out-then-count-gt0
-shape_of-out-then-count-gt0 c = c.put-then-count-gt0.kept.0 ∙ flag-long c.loop-i.invariant.1
 
 pub returns-then-count-gt0 : goal.returns-then-count-gt0
 returns-then-count-gt0 c =

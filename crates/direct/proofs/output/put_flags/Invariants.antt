@@ -1,9 +1,6 @@
 -- The bits of a number wait until they fill a byte, which is then put. Assumes nothing.
 use Prim.Native.Nat.{◌-◌, ◌<◌}
-use mathlib.Core.Path.{◌∙◌}
-use native.Mathlib.Omega.{arith}
-use borrow.Author.Rules.{rules}
-use Rattle.direct.proofs.Flags.{FlagSo, flag-start, flag-long, flag-near, flag-some, flag-few, flag-fits, flag-more, flag-full, flag-end, flag-end-none}
+use Rattle.direct.proofs.Flags.{FlagSo}
 use Rattle.direct.proofs.output.put_flags.Given as goal
 
 abbrev pub invariant-loop-i : goal.invariant-loop-i

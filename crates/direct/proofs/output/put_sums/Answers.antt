@@ -1,9 +1,7 @@
 -- A sum is put where a number's bytes reach the end of a stretch. Assumes nothing.
-use Prim.Native.Nat.{◌-◌}
-use mathlib.Core.Logic.{⊎_elim}
 use native.Mathlib.Omega.{arith}
-use borrow.Author.Rules.{rules}
-use Rattle.direct.proofs.Sums.{SumSo, sum-start, sum-long, sum_near, sum-few, short-number, sum_more, sum-full, sum-end}
+use Rattle.direct.proofs.Sums.{sum-start, sum-long, sum_near, sum-few, short-number, sum_more, sum-full, sum-end}
+use Rattle.direct.proofs.output.put_sums.Goals.{then-count-gt0, else-count-gt0}
 use Rattle.direct.proofs.output.put_sums.Goals as goal
 
 pub loop-i-init : goal.loop-i-init
@@ -30,8 +28,8 @@ pub loop-i-preserved-then-count-ge512 : goal.loop-i-preserved-then-count-ge512
 loop-i-preserved-then-count-ge512 c =
     let inv = c.loop-i.invariant in
     sum-full inv c.loop-i-test.true c.byte_length-count.ensures c.if-count-ge512.true
-    (λ goes_on. ⊎_elim (λ w. omega arith) (λ w. omega arith) c.if-count-gt0.came)
-    (λ ends. ⊎_elim (λ w. omega arith) (λ w. omega arith) c.if-count-gt0.came)
+    (λ goes_on. elim c.if-count-gt0.branch [ then-count-gt0 w ↦ omega arith | else-count-gt0 w ↦ omega arith ])
+    (λ ends. elim c.if-count-gt0.branch [ then-count-gt0 w ↦ omega arith | else-count-gt0 w ↦ omega arith ])
     c.put_number.ensures
 
 pub loop-i-preserved : goal.loop-i-preserved

@@ -1,9 +1,6 @@
 -- A sum is put where a number's bytes reach the end of a stretch. Assumes nothing.
 use Prim.Native.Nat.{◌-◌}
-use mathlib.Core.Logic.{⊎_elim}
-use native.Mathlib.Omega.{arith}
-use borrow.Author.Rules.{rules}
-use Rattle.direct.proofs.Sums.{SumSo, sum-start, sum-long, sum_near, sum-few, short-number, sum_more, sum-full, sum-end}
+use Rattle.direct.proofs.Sums.{SumSo}
 use Rattle.direct.proofs.output.put_sums.Given as goal
 
 abbrev pub invariant-loop-i : goal.invariant-loop-i

@@ -1,7 +1,6 @@
 -- The number of data bytes, and then the bits, the sums and the data. Assumes nothing.
 use native.Mathlib.Omega.{arith}
 use Rattle.meaning.specs.Places.{part}
-use borrow.Author.Rules.{rules}
 use Rattle.direct.proofs.Writing.{data-few, sums-near, data-near, parts-past, parts-written}
 use Rattle.direct.proofs.output.write.Goals as goal
 
@@ -33,9 +32,7 @@ pub put_data-requires : goal.put_data-requires
 put_data-requires c = (c.requires.inside, omega (arith, c.data_at.ensures, data-near c.requires c.data_length-d.ensures))
 
 pub returns : goal.returns
-unfolding data_of
 returns c =
-    let from = data_of c in
     let a = c.args in
     parts-written (part a.list.now a.from.number a.n) c.data_length-d.ensures c.put_number.ensures c.put_flags.ensures
-    (rw c.sums_at.ensures at c.put_sums.ensures) (rw from.data-at.ensures at c.put_data.ensures)
+    (rw c.sums_at.ensures at c.put_sums.ensures) (rw c.data_at.ensures at c.put_data.ensures)

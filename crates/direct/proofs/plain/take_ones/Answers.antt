@@ -1,9 +1,7 @@
 -- `take_ones` meets its contract: each turn takes eight numbers of one byte (`Ones`). Assumes nothing.
-use Prim.Native.Nat.{◌-◌}
 use native.Mathlib.Omega.{arith}
-use borrow.Author.Rules.{rules}
 use Rattle.direct.proofs.Fits.{data-few}
-use Rattle.direct.proofs.Ones.{OnesSo, ones-start, ones-few, ones-byte, ones-far, ones-room, ones-inside, ones-turn, ones-end, ones_none}
+use Rattle.direct.proofs.Ones.{ones-start, ones-few, ones-byte, ones-far, ones-room, ones-inside, ones-turn, ones-end, ones_none}
 use Rattle.direct.proofs.plain.take_ones.Goals as goal
 
 pub data_at-data-requires : goal.data_at-data-requires
@@ -36,7 +34,7 @@ pub overflow_add-byte : goal.overflow_add-byte
 overflow_add-byte c = omega (arith, ones-far c.loop-n.invariant c.loop-n-test.true)
 
 pub overflow_add-number : goal.overflow_add-number
-overflow_add-number c = omega (arith, ones-room c.loop-n.invariant c.loop-n-test.true, c.loop-n.invariant.taking.long, c.good)
+overflow_add-number c = omega (arith, ones-room c.loop-n.invariant c.loop-n-test.true, c.loop-n.invariant.taking.long)
 
 pub take_eight-requires : goal.take_eight-requires
 take_eight-requires c =

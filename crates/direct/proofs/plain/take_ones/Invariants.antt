@@ -1,9 +1,6 @@
 -- `take_ones` meets its contract: each turn takes eight numbers of one byte (`Ones`). Assumes nothing.
 use Prim.Native.Nat.{◌-◌}
-use native.Mathlib.Omega.{arith}
-use borrow.Author.Rules.{rules}
-use Rattle.direct.proofs.Fits.{data-few}
-use Rattle.direct.proofs.Ones.{OnesSo, ones-start, ones-few, ones-byte, ones-far, ones-room, ones-inside, ones-turn, ones-end, ones_none}
+use Rattle.direct.proofs.Ones.{OnesSo}
 use Rattle.direct.proofs.plain.take_ones.Given as goal
 
 abbrev pub invariant-loop-n : goal.invariant-loop-n

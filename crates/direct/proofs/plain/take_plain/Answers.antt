@@ -1,11 +1,9 @@
 -- `take_plain` meets its contract: each turn takes one plain number (`Plains`). Assumes nothing.
-use Prim.Native.Nat.{◌-◌}
 use mathlib.Core.Path.{refl}
 use native.Mathlib.Omega.{arith}
-use borrow.Author.Rules.{rules}
 use Rattle.direct.proofs.Fits.{data-few}
 use Rattle.direct.proofs.Nexts.{target-within, begun-long, onward-long, onward-begun}
-use Rattle.direct.proofs.Plains.{Plainly, plain-start, plain-near, plain-far, plain_word, plain_turn}
+use Rattle.direct.proofs.Plains.{plain-start, plain-near, plain-far, plain_word, plain_turn}
 use Rattle.direct.proofs.plain.take_plain.Goals as goal
 
 pub data_at-data-requires : goal.data_at-data-requires
@@ -17,7 +15,7 @@ take_ones-ones-requires c = (c.requires.0, target-within c.requires.1 (omega (ar
 pub loop-i-init : goal.loop-i-init
 loop-i-init c =
     plain-start c.requires.0 (λ i. (c.type_inv.body i).fits)
-    (omega (arith, c.good, c.requires.1.inside, c.lesser-most.ensures))
+    (omega (arith, c.requires.1.inside, c.lesser-most.ensures))
     (omega (arith, c.requires.1.inside, c.lesser-most.ensures, begun-long c.take_ones-ones.ensures))
     c.data_at-data.ensures c.lesser.ensures refl
 

@@ -1,11 +1,6 @@
 -- `take_plain` meets its contract: each turn takes one plain number (`Plains`). Assumes nothing.
 use Prim.Native.Nat.{◌-◌}
-use mathlib.Core.Path.{refl}
-use native.Mathlib.Omega.{arith}
-use borrow.Author.Rules.{rules}
-use Rattle.direct.proofs.Fits.{data-few}
-use Rattle.direct.proofs.Nexts.{target-within, begun-long, onward-long, onward-begun}
-use Rattle.direct.proofs.Plains.{Plainly, plain-start, plain-near, plain-far, plain_word, plain_turn}
+use Rattle.direct.proofs.Plains.{Plainly}
 use Rattle.direct.proofs.plain.take_plain.Given as goal
 
 abbrev pub invariant-loop-i : goal.invariant-loop-i

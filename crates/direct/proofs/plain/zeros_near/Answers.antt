@@ -2,7 +2,6 @@
 use Prim.Native.Nat.{◌/◌, ◌%◌, ◌^◌}
 use native.Mathlib.Omega.{arith}
 use lib.Count.{trailing_le}
-use borrow.Author.Rules.{rules}
 use Rattle.direct.proofs.Plains.{near-inside, near-zeros}
 use Rattle.direct.proofs.plain.zeros_near.Goals as goal
 
