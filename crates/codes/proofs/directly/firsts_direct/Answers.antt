@@ -20,7 +20,7 @@ lookup-requires c =
 pub overflow_add-work : goal.overflow_add-work
 overflow_add-work c =
     let (laid, most, space) = c.loop-number.invariant in
-    omega (arith, space.room, c.good, c.loop-number-test.true)
+    omega (arith, space.room, c.loop-number-test.true)
 
 pub bounds-work-to : goal.bounds-work-to
 bounds-work-to c =

@@ -1,4 +1,5 @@
 -- Each arm is its code's end. Assumes nothing.
+use native.Mathlib.Omega.{arith}
 use Rattle.codes.proofs.Numbered.{code-1, code-2, code-3, code-4, code-5, code-6, code-7, code-8}
 use borrow.Author.Rules.{rules}
 use Rattle.codes.proofs.dispatch.done_at.Goals as goal
@@ -26,5 +27,4 @@ returns-in-8 c = rw (code-8 _ c.in-8.is) c.done-in-8.ensures
 
 pub returns-in_default : goal.returns-in_default
 returns-in_default c =
-    let r = c.in-1.rest in
-    rw (code-7 _ r.0.0.0.0.0.0.1 r.0.0.0.0.0.1 r.0.0.0.0.1 r.0.0.0.1 r.0.0.1 r.0.1 r.1)
+    rw (code-7 c.args.code (omega arith) (omega arith) (omega arith) (omega arith) (omega arith) (omega arith) (omega arith))

@@ -45,7 +45,7 @@ loop-passed-init c =
 pub overflow_add-place : goal.overflow_add-place
 overflow_add-place c =
     let (l, laid, most, space) = c.loop-passed.invariant in
-    omega (arith, space.room, c.good)
+    omega (arith, space.room)
 
 pub overflow_sub-n : goal.overflow_sub-n
 overflow_sub-n c =

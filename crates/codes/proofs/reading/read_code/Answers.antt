@@ -16,7 +16,7 @@ pub loop-i-init : goal.loop-i-init
 loop-i-init c =
     let a = c.args in
     reading-start a.code a.body.now a.n c.start_at-started.ensures (λ i. (c.type_inv.body i).fits) c.requires
-    (omega (arith, c.requires.inside, c.good))
+    (omega (arith, c.requires.inside))
     c.in-At.is
 
 pub overflow_add-place : goal.overflow_add-place
@@ -38,7 +38,7 @@ returns-in_default-went c =
     (c.or_unit-went.ensures _ c.take_units-plain.ensures) c.in_default-went.is)
 
 pub offset_bounds-work-place : goal.offset_bounds-work-place
-offset_bounds-work-place c = omega (arith, c.loop-i.invariant.target.inside, c.good)
+offset_bounds-work-place c = omega (arith, c.loop-i.invariant.target.inside)
 
 pub shape_of-work-then-byte_length-spare : goal.shape_of-work-then-byte_length-spare
 shape_of-work-then-byte_length-spare c =

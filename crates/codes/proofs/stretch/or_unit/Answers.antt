@@ -10,15 +10,11 @@ use Rattle.codes.proofs.Stretches.{passed-taken, kept-none, passed-one, unit-ref
 use borrow.Author.Rules.{rules}
 use Rattle.codes.proofs.stretch.or_unit.Goals as goal
 
--- the array that a unit comes with
-all-places : (c : tie.After-numbers) → length c.before.before.before.before.unit-at.result.numbers ≡ unit_places
-all-places c = search rules
-
 pub returns-then-plain-gt0 : goal.returns-then-plain-gt0
-returns-then-plain-gt0 c = record { says = passed-taken t c.if-plain-gt0.true }
+returns-then-plain-gt0 c = λ before t. record { says = passed-taken t c.if-plain-gt0.true }
 
 pub returns-in_default : goal.returns-in_default
-returns-in_default c =
+returns-in_default c = λ before t.
     record {
       says = (
         unit-refused c.unit_at-read.ensures c.in_default.is ∙ ap (λ (e : ℕ). refused e) (sym c.refusal_of.ensures),
@@ -35,9 +31,10 @@ pub spare_after-spare-requires : goal.spare_after-spare-requires
 spare_after-spare-requires c = unit-few c.unit_at-read.ensures c.in-Next.is
 
 pub returns : goal.returns
-returns c =
+returns c = λ before t.
+    let whole : length c.unit_at-read.result.numbers ≡ unit_places = search rules in
     record {
       says =
           passed-one (laws c.args.code) (λ i. (c.type_inv.body i).fits) c.requires.1 c.unit_at-read.ensures c.in-Next.is
-          (all-places c) c.lesser.ensures (kept-none t c.if-plain-gt0.false) c.lay.ensures c.spare_after-spare.ensures;
+          whole c.lesser.ensures (kept-none t c.if-plain-gt0.false) c.lay.ensures c.spare_after-spare.ensures;
     }
