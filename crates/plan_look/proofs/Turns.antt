@@ -20,7 +20,7 @@ use Rattle.codes.specs.Firsts.{Firsts, total}
 use Rattle.codes.specs.declared.First.{First}
 use Rattle.codes.proofs.Totals.{total-refused, total-taken}
 use Rattle.stages.specs.Firsts.{first_small, Stored}
-use Rattle.stages.proofs.Firsts.{first-most, first_small, first-large}
+use Rattle.stages.proofs.Firsts.{first-most, first-small, first-large}
 use Rattle.stages.proofs.Looks.{within-given, sum-taken}
 use Rattle.stages.proofs.Parts.{part-get, shorter}
 use Rattle.stages.proofs.Raises.{stored-kept, stored_at}
@@ -107,7 +107,7 @@ module _ {at : ℕ → Answer ℕ} {k from : ℕ} {w₀ w : List ℕ} {got : Fir
       where
         here : (i : ℕ) → i < c → i < got.count → stage i ≡ given (get_or w' (from + i) 0)
         here i l h =
-            told i h ∙ within-given (get_or ys i 0) (first_small ys i (omega (arith, so.many))) ∙ ap (λ (x : ℕ). given x) (sym (stored_at so (omega arith) i l))
+            told i h ∙ within-given (get_or ys i 0) (first-small ys i (omega (arith, so.many))) ∙ ap (λ (x : ℕ). given x) (sym (stored_at so (omega arith) i l))
 
         over : c < got.count → stage c ≡ refused broken
         over h =
