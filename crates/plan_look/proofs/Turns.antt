@@ -24,7 +24,7 @@ use Rattle.stages.proofs.Firsts.{first-most, first-small, first-large}
 use Rattle.stages.proofs.Looks.{within-given, sum-taken}
 use Rattle.stages.proofs.Parts.{part-get, shorter}
 use Rattle.stages.proofs.Raises.{stored-kept, stored_at}
-use Rattle.stages.proofs.Scans.{raised_by, raised_at, raise-scan, sums-scan, scan-length}
+use Rattle.stages.proofs.Scans.{raised_by, raised_at as raised-at, raise-scan, sums-scan, scan-length}
 use Rattle.stages.proofs.Through.{within-over, through-all, differences-first}
 use Rattle.plan_look.specs.Turns.{raised_at, ended_by, stop_at}
 
@@ -117,7 +117,7 @@ module _ {at : ℕ → Answer ℕ} {k from : ℕ} {w₀ w : List ℕ} {got : Fir
     pub raised-firsts : (m : ℕ) (w' : List ℕ) (c : ℕ) → Stored (raised_by m got-numbers) from w w' c → Firsts (raised_at m at) k from w₀ w' (stop_at got c)
     raised-firsts m w' c so =
         firsts-stopped (raised_at m at) (raised_by m got-numbers) (scan-length raised_by _ _ raise-scan m got-numbers ∙ numbers-long)
-        (λ i h. rw (numbers-at i h) (ap within (raised_at m got-numbers i (omega (arith, numbers-long)))))
+        (λ i h. rw (numbers-at i h) (ap within (raised-at m got-numbers i (omega (arith, numbers-long)))))
         (λ z e. rw e)
         w' c so
 

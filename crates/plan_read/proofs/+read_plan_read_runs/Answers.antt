@@ -17,7 +17,7 @@ use Rattle.plan_read.proofs.+read_plan_read_runs.Goals as goal
 -- ---- read_plan
 
 pub read_plan-read_code-requires : goal.read_plan-read_code-requires
-read_plan-read_code-requires t c = record { inside = omega (arith, fits-list c.requires.1); short = c.requires.1.short }
+read_plan-read_code-requires t c = record { inside = omega (arith, fits-list c.requires); short = c.requires.short }
 
 pub read_plan-returns-then-body-lt4 : goal.read_plan-returns-then-body-lt4
 read_plan-returns-then-body-lt4 t c =
@@ -27,23 +27,23 @@ read_plan-returns-then-body-lt4 t c =
 pub read_plan-read_plan-requires : goal.read_plan-read_plan-requires
 read_plan-read_plan-requires t c =
     let is = at-reference _ _ _ _ _ (sym c.stage_at.ensures ∙ c.in-Reference.is) in
-    (omega arith, fits-inner c.requires.1 is.1 (part-short c.args.body.now 4 (length c.args.body.now - 4)))
+    (omega arith, fits-inner c.requires is.1 (part-short c.args.body.now 4 (length c.args.body.now - 4)))
 
 pub read_plan-raise-requires : goal.read_plan-raise-requires
-read_plan-raise-requires t c = omega (arith, fits-list c.requires.1)
+read_plan-raise-requires t c = omega (arith, fits-list c.requires)
 
 pub read_plan-read_plan-requires-in-Differences : goal.read_plan-read_plan-requires-in-Differences
 read_plan-read_plan-requires-in-Differences t c =
     let is = at-differences _ _ _ _ _ (sym c.stage_at.ensures ∙ c.in-Differences.is) in
-    (omega arith, fits-inner c.requires.1 is.1 (omega arith))
+    (omega arith, fits-inner c.requires is.1 (omega arith))
 
 pub read_plan-sum_up-requires : goal.read_plan-sum_up-requires
-read_plan-sum_up-requires t c = omega (arith, fits-list c.requires.1)
+read_plan-sum_up-requires t c = omega (arith, fits-list c.requires)
 
 pub read_plan-read_runs-requires : goal.read_plan-read_runs-requires
 read_plan-read_runs-requires t c =
     let is = at-runs _ _ _ _ _ (sym c.stage_at.ensures ∙ c.in-Runs.is) in
-    (omega arith, fits-runs c.requires.1 is.1)
+    (omega arith, fits-runs c.requires is.1)
 
 pub read_plan-returns-in-Bad : goal.read_plan-returns-in-Bad
 read_plan-returns-in-Bad t c = step-bad _ _ _ _ _ (at-bad _ _ _ (sym c.stage_at.ensures ∙ c.in-Bad.is))
@@ -88,19 +88,19 @@ pub read_runs-read_plan-requires : goal.read_runs-read_plan-requires
 read_runs-read_plan-requires t c =
     let head = headed c.header_of.ensures c.in-Runs.is in
     let split = c.in-Runs.end.byte in
-    (omega arith, fits-values c.requires.1 head.few (part-short c.args.body.now 8 (split - 8)) refl)
+    (omega arith, fits-values c.requires head.few (part-short c.args.body.now 8 (split - 8)) refl)
 
 pub read_runs-read_plan-requires-in-Whole : goal.read_runs-read_plan-requires-in-Whole
 read_runs-read_plan-requires-in-Whole t c =
     let head = headed c.header_of.ensures c.in-Runs.is in
     let split = c.in-Runs.end.byte in
     let short = part-short c.args.body.now split (length c.args.body.now - split) in
-    (omega arith, fits-lengths c.requires.1 head.few short c.read_plan.kept.1.1.1.1.1.0)
+    (omega arith, fits-lengths c.requires head.few short c.read_plan.kept.1.1.1.1.1.0)
 
 pub read_runs-unroll_into-requires : goal.read_runs-unroll_into-requires
 read_runs-unroll_into-requires t c =
     let head = headed c.header_of.ensures c.in-Runs.is in
-    (omega (arith, fits-spread c.requires.1), head.few)
+    (omega (arith, fits-spread c.requires), head.few)
 
 pub read_runs-returns-in-Refused : goal.read_runs-returns-in-Refused
 read_runs-returns-in-Refused t c = runs_none _ _ _ _ _ _ (headless c.header_of.ensures c.in-Refused.is)
@@ -132,3 +132,18 @@ read_runs-returns-in-Whole-read_plan t c =
     (runs_then _ _ _ _ _ head _ _ _ c.read_plan.ensures _ c.in-Whole.is many
     _ _ c.read_plan-in-Whole.ensures _ c.in-Whole-read_plan.is many₂
     _ _ c.unroll_into.ensures)
+
+pub read_runs-slice_bounds-read_plan-count : goal.read_runs-slice_bounds-read_plan-count
+read_runs-slice_bounds-read_plan-count t c = (headed c.header_of.ensures c.in-Runs.is).after
+
+pub read_runs-slice_bounds-read_plan-start : goal.read_runs-slice_bounds-read_plan-start
+read_runs-slice_bounds-read_plan-start t c = (headed c.header_of.ensures c.in-Runs.is).after
+
+pub read_runs-slice_bounds-read_plan-end : goal.read_runs-slice_bounds-read_plan-end
+read_runs-slice_bounds-read_plan-end t c = (headed c.header_of.ensures c.in-Runs.is).inside
+
+pub read_runs-slice_bounds-read_plan-count-in-Whole : goal.read_runs-slice_bounds-read_plan-count-in-Whole
+read_runs-slice_bounds-read_plan-count-in-Whole t c = (headed c.header_of.ensures c.in-Runs.is).inside
+
+pub read_runs-slice_bounds-read_plan-start-in-Whole : goal.read_runs-slice_bounds-read_plan-start-in-Whole
+read_runs-slice_bounds-read_plan-start-in-Whole t c = (headed c.header_of.ensures c.in-Runs.is).inside

@@ -9,47 +9,35 @@ use Rattle.plan_write.proofs.Steps.{fit-list, fit-code, fit-more, fit-inner, fit
 use Rattle.plan_write.proofs.Steps.{written-bad, written-code, written-stage, written-differences, written-reference, written-runs}
 use Rattle.plan_write.proofs.+write_plan_write_runs.Goals as goal
 
--- back to the start, where it is too far for `search`
-start_of : In-runs runs.After-write-plan → In-runs runs.Start
-start_of c = search
-
--- where the values' body ended
-ended : (c : In-runs runs.After-write-plan)
-    → Ended (start_of c).args.stages (start_of c).args.n (start_of c).args.at.byte c.write-plan.result.byte
-ended c =
-    let known : In-runs runs.After-slice-known3 = search in
-    let made : In-runs runs.After-runs-into = search in
-    values-end (start_of c).requires.1 made.runs-into.ensures _ _ (λ i. (known.slice-known3.given i).fits) c.write-plan.ensures
-
 -- ---- write_plan
 
 pub write_plan-write_code-requires : goal.write_plan-write_code-requires
-write_plan-write_code-requires t c = record { inside = fit-list c.requires.1; short = fit-code c.requires.1 }
+write_plan-write_code-requires t c = record { inside = fit-list c.requires; short = fit-code c.requires }
 
 pub write_plan-less_into-requires : goal.write_plan-less_into-requires
 write_plan-less_into-requires t c =
     let is = at-reference _ _ _ _ _ (sym c.stage_at.ensures ∙ c.in-Reference.is) in
-    fit-more c.requires.1 is.1
+    fit-more c.requires is.1
 
 pub write_plan-write_plan-requires : goal.write_plan-write_plan-requires
 write_plan-write_plan-requires t c =
     let is = at-reference _ _ _ _ _ (sym c.stage_at.ensures ∙ c.in-Reference.is) in
-    (omega (arith, c.requires.0, is.1), fit-inner c.requires.1 is.1 (omega arith) c.less_into.kept.0)
+    (omega (arith, is.1), fit-inner c.requires is.1 (omega arith) c.less_into.kept.0)
 
 pub write_plan-gaps_into-requires : goal.write_plan-gaps_into-requires
 write_plan-gaps_into-requires t c =
     let is = at-differences _ _ _ _ _ (sym c.stage_at.ensures ∙ c.in-Differences.is) in
-    fit-more c.requires.1 is.1
+    fit-more c.requires is.1
 
 pub write_plan-write_plan-requires-in-Differences : goal.write_plan-write_plan-requires-in-Differences
 write_plan-write_plan-requires-in-Differences t c =
     let is = at-differences _ _ _ _ _ (sym c.stage_at.ensures ∙ c.in-Differences.is) in
-    (omega (arith, c.requires.0, is.1), fit-inner c.requires.1 is.1 (omega arith) c.gaps_into.kept.0)
+    (omega (arith, is.1), fit-inner c.requires is.1 (omega arith) c.gaps_into.kept.0)
 
 pub write_plan-write_runs-requires : goal.write_plan-write_runs-requires
 write_plan-write_runs-requires t c =
     let is = at-runs _ _ _ _ _ (sym c.stage_at.ensures ∙ c.in-Runs.is) in
-    (omega (arith, c.requires.0, is.1), fit-runs c.requires.1 is.1)
+    (omega (arith, is.1), fit-runs c.requires is.1)
 
 pub write_plan-returns-in-Bad : goal.write_plan-returns-in-Bad
 write_plan-returns-in-Bad t c = written-bad (at-bad _ _ _ (sym c.stage_at.ensures ∙ c.in-Bad.is))
@@ -62,13 +50,13 @@ write_plan-returns-in-Code t c =
 pub write_plan-returns-in-Reference : goal.write_plan-returns-in-Reference
 write_plan-returns-in-Reference t c =
     let is = at-reference _ _ _ _ _ (sym c.stage_at.ensures ∙ c.in-Reference.is) in
-    written-reference c.requires.1 is.1 is.0 c.least_of-m.ensures c.put_word.ensures c.less_into.ensures
+    written-reference c.requires is.1 is.0 c.least_of-m.ensures c.put_word.ensures c.less_into.ensures
     c.write_plan.ensures
 
 pub write_plan-returns-in-Differences : goal.write_plan-returns-in-Differences
 write_plan-returns-in-Differences t c =
     let is = at-differences _ _ _ _ _ (sym c.stage_at.ensures ∙ c.in-Differences.is) in
-    written-differences c.requires.1 is.1 is.0 c.gaps_into.ensures c.write_plan-in-Differences.ensures
+    written-differences c.requires is.1 is.0 c.gaps_into.ensures c.write_plan-in-Differences.ensures
 
 pub write_plan-returns-in-Runs : goal.write_plan-returns-in-Runs
 write_plan-returns-in-Runs t c =
@@ -78,32 +66,71 @@ write_plan-returns-in-Runs t c =
 -- ---- write_runs
 
 pub write_runs-word_of-requires : goal.write_runs-word_of-requires
-write_runs-word_of-requires t c = omega (arith, runs_fit c.requires.1 c.runs_into-k.ensures, c.requires.1.few)
+write_runs-word_of-requires t c = omega (arith, runs_fit c.requires c.runs_into-k.ensures, c.requires.few)
 
 pub write_runs-write_plan-end-requires : goal.write_runs-write_plan-end-requires
 write_runs-write_plan-end-requires t c =
-    let few = runs_fit c.requires.1 c.runs_into-k.ensures in
-    (omega (arith, c.requires.0), fit-part c.requires.1 few (omega arith) (omega arith) c.runs_into-k.kept.0)
+    let few = runs_fit c.requires c.runs_into-k.ensures in
+    (omega (arith), fit-part c.requires few (omega arith) (omega arith) c.runs_into-k.kept.0)
 
 pub write_runs-overflow_sub-stop : goal.write_runs-overflow_sub-stop
-write_runs-overflow_sub-stop t c = omega (arith, (ended c).after)
+write_runs-overflow_sub-stop t c = omega (arith, (values-end c.requires c.runs_into-k.ensures _ _ (λ i. (c.type_inv.work i).fits) c.write_plan-end.ensures).after)
 
 pub write_runs-word_of-requires-2 : goal.write_runs-word_of-requires-2
-write_runs-word_of-requires-2 t c = omega (arith, (ended c).after, (ended c).before, (start_of c).requires.1.small)
+write_runs-word_of-requires-2 t c = omega (arith, (values-end c.requires c.runs_into-k.ensures _ _ (λ i. (c.type_inv.work i).fits) c.write_plan-end.ensures).after, (values-end c.requires c.runs_into-k.ensures _ _ (λ i. (c.type_inv.work i).fits) c.write_plan-end.ensures).before, c.requires.1.small)
 
 pub write_runs-overflow_add-first-2 : goal.write_runs-overflow_add-first-2
-write_runs-overflow_add-first-2 t c = omega (arith, (start_of c).good, (start_of c).requires.1.within)
+write_runs-overflow_add-first-2 t c = omega (arith, c.requires.1.within)
 
 pub write_runs-write_plan-requires : goal.write_runs-write_plan-requires
 write_runs-write_plan-requires t c =
-    let few = runs_fit c.requires.1 c.runs_into-k.ensures in
+    let few = runs_fit c.requires c.runs_into-k.ensures in
     let same = c.write_plan-end.kept.1.1.1.0 ∙ c.runs_into-k.kept.0 in
-    (omega (arith, c.requires.0), fit-part c.requires.1 few (omega arith) (ended c).before same)
+    (omega (arith), fit-part c.requires few (omega arith) (values-end c.requires c.runs_into-k.ensures _ _ (λ i. (c.type_inv.work i).fits) c.write_plan-end.ensures).before same)
 
 pub write_runs-returns : goal.write_runs-returns
 write_runs-returns t c =
     let a = c.args in
-    written-runs c.requires.1 c.runs_into-k.ensures {p = plan_at a.stages a.plan.now a.pos.byte}
+    written-runs c.requires c.runs_into-k.ensures {p = plan_at a.stages a.plan.now a.pos.byte}
     (second (λ (q : Plan). q) _ _ _ _ c.plan_end-second.ensures)
     c.word_of.ensures c.put_word.ensures c.write_plan-end.ensures
     c.word_of-2.ensures c.put_word-2.ensures c.write_plan.ensures
+
+pub write_plan-least_of-m-requires : goal.write_plan-least_of-m-requires
+write_plan-least_of-m-requires t c = fit-list c.requires
+
+pub write_plan-put_word-requires : goal.write_plan-put_word-requires
+write_plan-put_word-requires t c = omega (arith, c.requires.below)
+
+pub write_plan-overflow_add-first : goal.write_plan-overflow_add-first
+write_plan-overflow_add-first t c = omega (arith, fit-list c.requires)
+
+pub write_plan-overflow_add-start : goal.write_plan-overflow_add-start
+write_plan-overflow_add-start t c = omega (arith, c.requires.below)
+
+pub write_plan-overflow_add-first-in-Differences : goal.write_plan-overflow_add-first-in-Differences
+write_plan-overflow_add-first-in-Differences t c = omega (arith, fit-list c.requires)
+
+pub write_runs-runs_into-k-requires : goal.write_runs-runs_into-k-requires
+write_runs-runs_into-k-requires t c = (fit-three c.requires, omega (arith, c.requires.few))
+
+pub write_runs-put_word-requires : goal.write_runs-put_word-requires
+write_runs-put_word-requires t c = omega (arith, c.requires.below)
+
+pub write_runs-overflow_mul-n : goal.write_runs-overflow_mul-n
+write_runs-overflow_mul-n t c = omega (arith, c.requires.few)
+
+pub write_runs-overflow_add-first : goal.write_runs-overflow_add-first
+write_runs-overflow_add-first t c = omega (arith, c.requires.within)
+
+pub write_runs-overflow_add-start : goal.write_runs-overflow_add-start
+write_runs-overflow_add-start t c = omega (arith, c.requires.below)
+
+pub write_runs-overflow_add-start-2 : goal.write_runs-overflow_add-start-2
+write_runs-overflow_add-start-2 t c = omega (arith, c.requires.below)
+
+pub write_runs-overflow_add-start-3 : goal.write_runs-overflow_add-start-3
+write_runs-overflow_add-start-3 t c = omega (arith, c.requires.below)
+
+pub write_runs-put_word-requires-2 : goal.write_runs-put_word-requires-2
+write_runs-put_word-requires-2 t c = omega (arith, c.requires.below)

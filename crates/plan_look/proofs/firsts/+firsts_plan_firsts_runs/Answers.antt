@@ -15,7 +15,7 @@ use Rattle.plan_look.proofs.firsts.+firsts_plan_firsts_runs.Goals as goal
 -- ---- firsts_plan
 
 pub firsts_plan-firsts_code-requires : goal.firsts_plan-firsts_code-requires
-firsts_plan-firsts_code-requires t c = code-space c.requires.1.0 c.requires.1.1
+firsts_plan-firsts_code-requires t c = code-space c.requires.0 c.requires.1
 
 pub firsts_plan-returns-then-body-lt4 : goal.firsts_plan-returns-then-body-lt4
 firsts_plan-returns-then-body-lt4 t c =
@@ -25,31 +25,31 @@ firsts_plan-returns-then-body-lt4 t c =
 pub firsts_plan-firsts_plan-got-requires : goal.firsts_plan-firsts_plan-got-requires
 firsts_plan-firsts_plan-got-requires t c =
     let is = at-reference _ _ _ _ _ (sym c.stage_at.ensures ∙ c.in-Reference.is) in
-    (omega arith, (fits-inner c.requires.1.0 is.1 (part-short c.args.body.now 4 (length c.args.body.now - 4)), c.requires.1.1))
+    (omega arith, (fits-inner c.requires.0 is.1 (part-short c.args.body.now 4 (length c.args.body.now - 4)), c.requires.1))
 
 pub firsts_plan-raise_firsts-count-requires : goal.firsts_plan-raise_firsts-count-requires
 firsts_plan-raise_firsts-count-requires t c =
-    let room = fits-list c.requires.1.0 in
+    let room = fits-list c.requires.0 in
     let same = c.firsts_plan-got.kept.1.1.1.1.1.1.0 in
     let few = c.firsts_plan-got.ensures.most in
-    omega (arith, c.requires.1.1)
+    omega (arith, c.requires.1)
 
 pub firsts_plan-firsts_plan-got-requires-in-Differences : goal.firsts_plan-firsts_plan-got-requires-in-Differences
 firsts_plan-firsts_plan-got-requires-in-Differences t c =
     let is = at-differences _ _ _ _ _ (sym c.stage_at.ensures ∙ c.in-Differences.is) in
-    (omega arith, (fits-inner c.requires.1.0 is.1 (omega arith), c.requires.1.1))
+    (omega arith, (fits-inner c.requires.0 is.1 (omega arith), c.requires.1))
 
 pub firsts_plan-sum_firsts-count-requires : goal.firsts_plan-sum_firsts-count-requires
 firsts_plan-sum_firsts-count-requires t c =
-    let room = fits-list c.requires.1.0 in
+    let room = fits-list c.requires.0 in
     let same = c.firsts_plan-got-in-Differences.kept.1.1.1.1.1.1.0 in
     let few = c.firsts_plan-got-in-Differences.ensures.most in
-    omega (arith, c.requires.1.1)
+    omega (arith, c.requires.1)
 
 pub firsts_plan-firsts_runs-requires : goal.firsts_plan-firsts_runs-requires
 firsts_plan-firsts_runs-requires t c =
     let is = at-runs _ _ _ _ _ (sym c.stage_at.ensures ∙ c.in-Runs.is) in
-    (omega arith, (fits-runs c.requires.1.0 is.1, c.requires.1.1))
+    (omega arith, (fits-runs c.requires.0 is.1, c.requires.1))
 
 pub firsts_plan-returns-in-Bad : goal.firsts_plan-returns-in-Bad
 firsts_plan-returns-in-Bad t c = bad-firsts _ _ _ _ _ _ (at-bad _ _ _ (sym c.stage_at.ensures ∙ c.in-Bad.is)) c.ended.ensures
@@ -62,21 +62,21 @@ firsts_plan-returns-in-Code t c =
 pub firsts_plan-returns-else-body-lt4 : goal.firsts_plan-returns-else-body-lt4
 firsts_plan-returns-else-body-lt4 t c =
     let is = at-reference _ _ _ _ _ (sym c.stage_at.ensures ∙ c.in-Reference.is) in
-    let room = fits-list c.requires.1.0 in
+    let room = fits-list c.requires.0 in
     let same = c.firsts_plan-got.kept.1.1.1.1.1.1.0 in
     let few = c.firsts_plan-got.ensures.most in
     reference-firsts _ _ _ _ _ _ _ _ _ _ _ _ is.0 c.if-body-lt4.false _ c.word_at-m.ensures c.firsts_plan-got.ensures
     c.raise_firsts-count.ensures
-    c.stop_at.ensures (omega (arith, c.requires.1.1))
+    c.stop_at.ensures (omega (arith, c.requires.1))
 
 pub firsts_plan-returns-in-Differences : goal.firsts_plan-returns-in-Differences
 firsts_plan-returns-in-Differences t c =
     let is = at-differences _ _ _ _ _ (sym c.stage_at.ensures ∙ c.in-Differences.is) in
-    let room = fits-list c.requires.1.0 in
+    let room = fits-list c.requires.0 in
     let same = c.firsts_plan-got-in-Differences.kept.1.1.1.1.1.1.0 in
     let few = c.firsts_plan-got-in-Differences.ensures.most in
     differences-firsts _ _ _ _ _ _ _ _ _ _ _ _ is.0 c.firsts_plan-got-in-Differences.ensures c.sum_firsts-count.ensures c.stop_at-in-Differences.ensures
-    (omega (arith, c.requires.1.1))
+    (omega (arith, c.requires.1))
 
 pub firsts_plan-returns-in-Runs : goal.firsts_plan-returns-in-Runs
 firsts_plan-returns-in-Runs t c =
@@ -90,7 +90,7 @@ firsts_runs-firsts_plan-values-requires t c =
     let head = headed c.header_of.ensures c.in-Runs.is in
     let split = c.in-Runs.end.byte in
     let short = part-short c.args.body.now 8 (split - 8) in
-    (omega (arith, c.requires.0), (fits-values c.requires.1.0 head.few short refl, omega (arith, c.lesser-few.ensures)))
+    (omega (arith), (fits-values c.requires.0 head.few short refl, omega (arith, c.lesser-few.ensures)))
 
 pub firsts_runs-firsts_plan-lengths-requires : goal.firsts_runs-firsts_plan-lengths-requires
 firsts_runs-firsts_plan-lengths-requires t c =
@@ -98,14 +98,14 @@ firsts_runs-firsts_plan-lengths-requires t c =
     let split = c.in-Runs.end.byte in
     let short = part-short c.args.body.now split (length c.args.body.now - split) in
     let same = c.firsts_plan-values.kept.1.1.1.1.1.1.0 in
-    (omega (arith, c.requires.0), (fits-lengths c.requires.1.0 head.few short same, omega (arith, c.lesser-few.ensures)))
+    (omega (arith), (fits-lengths c.requires.0 head.few short same, omega (arith, c.lesser-few.ensures)))
 
 pub firsts_runs-spread_runs-requires : goal.firsts_runs-spread_runs-requires
 firsts_runs-spread_runs-requires t c =
     let head = headed c.header_of.ensures c.in-Runs.is in
     let small = c.lesser-few.ensures in (
-      omega (arith, fits-spread c.requires.1.0),
-      c.requires.1.1,
+      omega (arith, fits-spread c.requires.0),
+      c.requires.1,
       omega (arith, c.firsts_plan-values.ensures.most, head.few),
       omega (arith, c.firsts_plan-lengths.ensures.most, head.few),
     )
@@ -119,3 +119,18 @@ firsts_runs-returns-in-Runs t c =
     runs-firsts _ _ _ _ _ _ _ _ _ _ c.plan_end-after.ensures _ _ _ _ _ _ head c.lesser-few.ensures c.firsts_plan-values.ensures
     c.firsts_plan-lengths.ensures
     c.spread_runs.ensures
+
+pub firsts_runs-slice_bounds-firsts_plan-count : goal.firsts_runs-slice_bounds-firsts_plan-count
+firsts_runs-slice_bounds-firsts_plan-count t c = (headed c.header_of.ensures c.in-Runs.is).after
+
+pub firsts_runs-slice_bounds-firsts_plan-start : goal.firsts_runs-slice_bounds-firsts_plan-start
+firsts_runs-slice_bounds-firsts_plan-start t c = (headed c.header_of.ensures c.in-Runs.is).after
+
+pub firsts_runs-slice_bounds-firsts_plan-end : goal.firsts_runs-slice_bounds-firsts_plan-end
+firsts_runs-slice_bounds-firsts_plan-end t c = (headed c.header_of.ensures c.in-Runs.is).inside
+
+pub firsts_runs-slice_bounds-firsts_plan-count-in-Runs : goal.firsts_runs-slice_bounds-firsts_plan-count-in-Runs
+firsts_runs-slice_bounds-firsts_plan-count-in-Runs t c = (headed c.header_of.ensures c.in-Runs.is).inside
+
+pub firsts_runs-slice_bounds-firsts_plan-start-in-Runs : goal.firsts_runs-slice_bounds-firsts_plan-start-in-Runs
+firsts_runs-slice_bounds-firsts_plan-start-in-Runs t c = (headed c.header_of.ensures c.in-Runs.is).inside

@@ -25,22 +25,22 @@ pub lookup_plan-lookup_plan-requires : goal.lookup_plan-lookup_plan-requires
 lookup_plan-lookup_plan-requires t c =
     let is = at-reference _ _ _ _ _ (sym c.stage_at.ensures ∙ c.in-Reference.is) in
     let short = part-short c.args.body.now 4 (length c.args.body.now - 4) in
-    (omega arith, (looked-part c.requires.1.0 short, omega (arith, is.1)))
+    (omega arith, (looked-part c.requires.0 short, omega (arith, is.1)))
 
 pub lookup_plan-total_plan-requires : goal.lookup_plan-total_plan-requires
 lookup_plan-total_plan-requires t c =
     let is = at-differences _ _ _ _ _ (sym c.stage_at.ensures ∙ c.in-Differences.is) in
-    (c.requires.1.0, omega (arith, is.1))
+    (c.requires.0, omega (arith, is.1))
 
 pub lookup_plan-taking_refusal-taking-requires : goal.lookup_plan-taking_refusal-taking-requires
 lookup_plan-taking_refusal-taking-requires t c =
     let is = at-differences _ _ _ _ _ (sym c.stage_at.ensures ∙ c.in-Differences.is) in
-    (c.requires.1.0, omega (arith, is.1))
+    (c.requires.0, omega (arith, is.1))
 
 pub lookup_plan-lookup_runs-requires : goal.lookup_plan-lookup_runs-requires
 lookup_plan-lookup_runs-requires t c =
     let is = at-runs _ _ _ _ _ (sym c.stage_at.ensures ∙ c.in-Runs.is) in
-    (omega arith, (c.requires.1.0, omega (arith, is.1)))
+    (omega arith, (c.requires.0, omega (arith, is.1)))
 
 pub lookup_plan-returns-in-Bad : goal.lookup_plan-returns-in-Bad
 lookup_plan-returns-in-Bad t c = look-bad _ _ _ _ (at-bad _ _ _ (sym c.stage_at.ensures ∙ c.in-Bad.is))
@@ -86,14 +86,14 @@ lookup_runs-find_run-requires t c =
     let head = headed c.header_of.ensures c.in-Runs.is in
     let split = c.in-Runs.end.byte in
     let short = part-short c.args.body.now split (length c.args.body.now - split) in
-    (looked-part c.requires.1.0 short, head.few, c.requires.1.1)
+    (looked-part c.requires.0 short, head.few, c.requires.1)
 
 pub lookup_runs-lookup_plan-requires : goal.lookup_runs-lookup_plan-requires
 lookup_runs-lookup_plan-requires t c =
     let head = headed c.header_of.ensures c.in-Runs.is in
     let short = part-short c.args.body.now 8 (c.in-Runs.end.byte - 8) in
     let place = says_so run_says c.find_run.ensures c.in-At.is in
-    (omega (arith, c.requires.0), (run-looked _ _ head place c.requires.1.0 short, omega (arith, c.requires.1.1)))
+    (omega (arith), (run-looked _ _ head place c.requires.0 short, omega (arith, c.requires.1)))
 
 pub lookup_runs-returns-in-Refused : goal.lookup_runs-returns-in-Refused
 lookup_runs-returns-in-Refused t c = header_refused _ _ _ _ _ _ _ (headless c.header_of.ensures c.in-Refused.is)
@@ -108,3 +108,18 @@ lookup_runs-returns-in-At t c =
     let head = headed c.header_of.ensures c.in-Runs.is in
     run-found _ _ _ _ _ _ _ _ c.plan_end-second.ensures head _ (says_so run_says c.find_run.ensures c.in-At.is) _
     c.lookup_plan.ensures
+
+pub lookup_runs-slice_bounds-find_run-count : goal.lookup_runs-slice_bounds-find_run-count
+lookup_runs-slice_bounds-find_run-count t c = (headed c.header_of.ensures c.in-Runs.is).inside
+
+pub lookup_runs-slice_bounds-find_run-start : goal.lookup_runs-slice_bounds-find_run-start
+lookup_runs-slice_bounds-find_run-start t c = (headed c.header_of.ensures c.in-Runs.is).inside
+
+pub lookup_runs-slice_bounds-lookup_plan-count : goal.lookup_runs-slice_bounds-lookup_plan-count
+lookup_runs-slice_bounds-lookup_plan-count t c = (headed c.header_of.ensures c.in-Runs.is).after
+
+pub lookup_runs-slice_bounds-lookup_plan-start : goal.lookup_runs-slice_bounds-lookup_plan-start
+lookup_runs-slice_bounds-lookup_plan-start t c = (headed c.header_of.ensures c.in-Runs.is).after
+
+pub lookup_runs-slice_bounds-lookup_plan-end : goal.lookup_runs-slice_bounds-lookup_plan-end
+lookup_runs-slice_bounds-lookup_plan-end t c = (headed c.header_of.ensures c.in-Runs.is).inside

@@ -25,12 +25,12 @@ pub taking_refusal-taking_refusal-requires : goal.taking_refusal-taking_refusal-
 taking_refusal-taking_refusal-requires t c =
     let is = at-reference _ _ _ _ _ (sym c.stage_at.ensures ∙ c.in-Reference.is) in
     let short = part-short c.args.body.now 4 (length c.args.body.now - 4) in
-    (omega arith, (looked-part c.requires.1.0 short, omega (arith, is.1, c.requires.1.1)))
+    (omega arith, (looked-part c.requires.0 short, omega (arith, is.1, c.requires.1)))
 
 pub taking_refusal-taking_runs-requires : goal.taking_refusal-taking_runs-requires
 taking_refusal-taking_runs-requires t c =
     let is = at-runs _ _ _ _ _ (sym c.stage_at.ensures ∙ c.in-Runs.is) in
-    (omega arith, (c.requires.1.0, omega (arith, is.1, c.requires.1.1)))
+    (omega arith, (c.requires.0, omega (arith, is.1, c.requires.1)))
 
 pub taking_refusal-returns-in-Bad : goal.taking_refusal-returns-in-Bad
 taking_refusal-returns-in-Bad t c = taking-bad _ _ _ _ (at-bad _ _ _ (sym c.stage_at.ensures ∙ c.in-Bad.is))
@@ -62,14 +62,14 @@ taking_runs-find_run-requires t c =
     let head = headed c.header_of.ensures c.in-Runs.is in
     let split = c.in-Runs.end.byte in
     let short = part-short c.args.body.now split (length c.args.body.now - split) in
-    (looked-part c.requires.1.0 short, head.few, c.requires.1.1)
+    (looked-part c.requires.0 short, head.few, c.requires.1)
 
 pub taking_runs-taking_refusal-requires : goal.taking_runs-taking_refusal-requires
 taking_runs-taking_refusal-requires t c =
     let head = headed c.header_of.ensures c.in-Runs.is in
     let short = part-short c.args.body.now 8 (c.in-Runs.end.byte - 8) in
     let place = says_so run_says c.find_run.ensures c.in-At.is in
-    (omega (arith, c.requires.0), (run-looked _ _ head place c.requires.1.0 short, omega (arith, c.requires.1.1)))
+    (omega (arith), (run-looked _ _ head place c.requires.0 short, omega (arith, c.requires.1)))
 
 pub taking_runs-returns-in-Refused : goal.taking_runs-returns-in-Refused
 taking_runs-returns-in-Refused t c = taking-headless _ _ _ _ _ _ _ (headless c.header_of.ensures c.in-Refused.is)
@@ -84,3 +84,18 @@ taking_runs-returns-in-At t c =
     let head = headed c.header_of.ensures c.in-Runs.is in
     taking-run _ _ _ _ _ _ _ _ c.plan_end-after.ensures head _ (says_so run_says c.find_run.ensures c.in-At.is) _
     c.taking_refusal.ensures
+
+pub taking_runs-slice_bounds-find_run-count : goal.taking_runs-slice_bounds-find_run-count
+taking_runs-slice_bounds-find_run-count t c = (headed c.header_of.ensures c.in-Runs.is).inside
+
+pub taking_runs-slice_bounds-find_run-start : goal.taking_runs-slice_bounds-find_run-start
+taking_runs-slice_bounds-find_run-start t c = (headed c.header_of.ensures c.in-Runs.is).inside
+
+pub taking_runs-slice_bounds-taking_refusal-count : goal.taking_runs-slice_bounds-taking_refusal-count
+taking_runs-slice_bounds-taking_refusal-count t c = (headed c.header_of.ensures c.in-Runs.is).after
+
+pub taking_runs-slice_bounds-taking_refusal-start : goal.taking_runs-slice_bounds-taking_refusal-start
+taking_runs-slice_bounds-taking_refusal-start t c = (headed c.header_of.ensures c.in-Runs.is).after
+
+pub taking_runs-slice_bounds-taking_refusal-end : goal.taking_runs-slice_bounds-taking_refusal-end
+taking_runs-slice_bounds-taking_refusal-end t c = (headed c.header_of.ensures c.in-Runs.is).inside
