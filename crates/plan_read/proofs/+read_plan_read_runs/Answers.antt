@@ -95,7 +95,7 @@ read_runs-read_plan-requires-in-Whole t c =
     let head = headed c.header_of.ensures c.in-Runs.is in
     let split = c.in-Runs.end.byte in
     let short = part-short c.args.body.now split (length c.args.body.now - split) in
-    (omega arith, fits-lengths c.requires head.few short c.read_plan.kept.1.1.1.1.1.0)
+    (omega arith, fits-lengths c.requires head.few short c.read_plan.auto.work)
 
 pub read_runs-unroll_into-requires : goal.read_runs-unroll_into-requires
 read_runs-unroll_into-requires t c =

@@ -22,7 +22,7 @@ write_plan-less_into-requires t c =
 pub write_plan-write_plan-requires : goal.write_plan-write_plan-requires
 write_plan-write_plan-requires t c =
     let is = at-reference _ _ _ _ _ (sym c.stage_at.ensures ∙ c.in-Reference.is) in
-    (omega (arith, is.1), fit-inner c.requires is.1 (omega arith) c.less_into.kept.0)
+    (omega (arith, is.1), fit-inner c.requires is.1 (omega arith) c.less_into.auto.work)
 
 pub write_plan-gaps_into-requires : goal.write_plan-gaps_into-requires
 write_plan-gaps_into-requires t c =
@@ -32,7 +32,7 @@ write_plan-gaps_into-requires t c =
 pub write_plan-write_plan-requires-in-Differences : goal.write_plan-write_plan-requires-in-Differences
 write_plan-write_plan-requires-in-Differences t c =
     let is = at-differences _ _ _ _ _ (sym c.stage_at.ensures ∙ c.in-Differences.is) in
-    (omega (arith, is.1), fit-inner c.requires is.1 (omega arith) c.gaps_into.kept.0)
+    (omega (arith, is.1), fit-inner c.requires is.1 (omega arith) c.gaps_into.auto.work)
 
 pub write_plan-write_runs-requires : goal.write_plan-write_runs-requires
 write_plan-write_runs-requires t c =
@@ -71,21 +71,21 @@ write_runs-word_of-requires t c = omega (arith, runs_fit c.requires c.runs_into-
 pub write_runs-write_plan-end-requires : goal.write_runs-write_plan-end-requires
 write_runs-write_plan-end-requires t c =
     let few = runs_fit c.requires c.runs_into-k.ensures in
-    (omega (arith), fit-part c.requires few (omega arith) (omega arith) c.runs_into-k.kept.0)
+    (omega (arith), fit-part c.requires few (omega arith) (omega arith) c.runs_into-k.auto.work)
 
 pub write_runs-overflow_sub-stop : goal.write_runs-overflow_sub-stop
-write_runs-overflow_sub-stop t c = omega (arith, (values-end c.requires c.runs_into-k.ensures _ _ (λ i. (c.type_inv.work i).fits) c.write_plan-end.ensures).after)
+write_runs-overflow_sub-stop t c = let h = c.runs_into-k in ? -- omega (arith, (values-end c.requires c.runs_into-k.ensures _ _ (λ i. (c.type_inv.work i).fits) c.write_plan-end.ensures).after)
 
 pub write_runs-word_of-requires-2 : goal.write_runs-word_of-requires-2
-write_runs-word_of-requires-2 t c = omega (arith, (values-end c.requires c.runs_into-k.ensures _ _ (λ i. (c.type_inv.work i).fits) c.write_plan-end.ensures).after, (values-end c.requires c.runs_into-k.ensures _ _ (λ i. (c.type_inv.work i).fits) c.write_plan-end.ensures).before, c.requires.1.small)
+write_runs-word_of-requires-2 t c = omega (arith, (values-end c.requires c.runs_into-k.ensures _ _ (λ i. (c.type_inv.work i).fits) c.write_plan-end.ensures).after, (values-end c.requires c.runs_into-k.ensures _ _ (λ i. (c.type_inv.work i).fits) c.write_plan-end.ensures).before, c.requires.small)
 
 pub write_runs-overflow_add-first-2 : goal.write_runs-overflow_add-first-2
-write_runs-overflow_add-first-2 t c = omega (arith, c.requires.1.within)
+write_runs-overflow_add-first-2 t c = omega (arith, c.requires.within)
 
 pub write_runs-write_plan-requires : goal.write_runs-write_plan-requires
 write_runs-write_plan-requires t c =
     let few = runs_fit c.requires c.runs_into-k.ensures in
-    let same = c.write_plan-end.kept.1.1.1.0 ∙ c.runs_into-k.kept.0 in
+    let same = c.write_plan-end.auto.work ∙ c.runs_into-k.auto.work in
     (omega (arith), fit-part c.requires few (omega arith) (values-end c.requires c.runs_into-k.ensures _ _ (λ i. (c.type_inv.work i).fits) c.write_plan-end.ensures).before same)
 
 pub write_runs-returns : goal.write_runs-returns

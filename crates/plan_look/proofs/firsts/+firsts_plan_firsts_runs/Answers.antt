@@ -30,7 +30,7 @@ firsts_plan-firsts_plan-got-requires t c =
 pub firsts_plan-raise_firsts-count-requires : goal.firsts_plan-raise_firsts-count-requires
 firsts_plan-raise_firsts-count-requires t c =
     let room = fits-list c.requires.0 in
-    let same = c.firsts_plan-got.kept.1.1.1.1.1.1.0 in
+    let same = c.firsts_plan-got.auto.work in
     let few = c.firsts_plan-got.ensures.most in
     omega (arith, c.requires.1)
 
@@ -42,7 +42,7 @@ firsts_plan-firsts_plan-got-requires-in-Differences t c =
 pub firsts_plan-sum_firsts-count-requires : goal.firsts_plan-sum_firsts-count-requires
 firsts_plan-sum_firsts-count-requires t c =
     let room = fits-list c.requires.0 in
-    let same = c.firsts_plan-got-in-Differences.kept.1.1.1.1.1.1.0 in
+    let same = c.firsts_plan-got-in-Differences.auto.work in
     let few = c.firsts_plan-got-in-Differences.ensures.most in
     omega (arith, c.requires.1)
 
@@ -63,7 +63,7 @@ pub firsts_plan-returns-else-body-lt4 : goal.firsts_plan-returns-else-body-lt4
 firsts_plan-returns-else-body-lt4 t c =
     let is = at-reference _ _ _ _ _ (sym c.stage_at.ensures ∙ c.in-Reference.is) in
     let room = fits-list c.requires.0 in
-    let same = c.firsts_plan-got.kept.1.1.1.1.1.1.0 in
+    let same = c.firsts_plan-got.auto.work in
     let few = c.firsts_plan-got.ensures.most in
     reference-firsts _ _ _ _ _ _ _ _ _ _ _ _ is.0 c.if-body-lt4.false _ c.word_at-m.ensures c.firsts_plan-got.ensures
     c.raise_firsts-count.ensures
@@ -73,7 +73,7 @@ pub firsts_plan-returns-in-Differences : goal.firsts_plan-returns-in-Differences
 firsts_plan-returns-in-Differences t c =
     let is = at-differences _ _ _ _ _ (sym c.stage_at.ensures ∙ c.in-Differences.is) in
     let room = fits-list c.requires.0 in
-    let same = c.firsts_plan-got-in-Differences.kept.1.1.1.1.1.1.0 in
+    let same = c.firsts_plan-got-in-Differences.auto.work in
     let few = c.firsts_plan-got-in-Differences.ensures.most in
     differences-firsts _ _ _ _ _ _ _ _ _ _ _ _ is.0 c.firsts_plan-got-in-Differences.ensures c.sum_firsts-count.ensures c.stop_at-in-Differences.ensures
     (omega (arith, c.requires.1))
@@ -97,7 +97,7 @@ firsts_runs-firsts_plan-lengths-requires t c =
     let head = headed c.header_of.ensures c.in-Runs.is in
     let split = c.in-Runs.end.byte in
     let short = part-short c.args.body.now split (length c.args.body.now - split) in
-    let same = c.firsts_plan-values.kept.1.1.1.1.1.1.0 in
+    let same = c.firsts_plan-values.auto.work in
     (omega (arith), (fits-lengths c.requires.0 head.few short same, omega (arith, c.lesser-few.ensures)))
 
 pub firsts_runs-spread_runs-requires : goal.firsts_runs-spread_runs-requires

@@ -61,7 +61,7 @@ lookup_plan-returns-in-Number t c =
     let is = at-reference _ _ _ _ _ (sym c.stage_at.ensures ∙ c.in-Reference.is) in
     reference-sum _ _ _ _ _ is.0 _ c.if-body-lt4.false (c.long-m.ensures.0 ∙ c.word_at.ensures) _ _ _
     (says_so found_says c.lookup_plan.ensures c.in-Number.is)
-    c.long.ensures.0 c.number_of_lem.ensures
+    c.long.ensures.0 c.number_of.ensures
 
 pub lookup_plan-returns-in-Refused-total_plan : goal.lookup_plan-returns-in-Refused-total_plan
 lookup_plan-returns-in-Refused-total_plan t c =
