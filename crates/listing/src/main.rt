@@ -1,14 +1,32 @@
 // Lists the sheet on standard input: each column's kind, plan, count and size, and its numbers.
 #![tactic(auto)]
 
-use libc::{STDIN_FILENO, STDOUT_FILENO};
+ghost use Rattle.std.specs.Io.{ReadsAtMost};
 
-fn main() {
+use std::io;
+use std::io::Read;
+
+// Reads until the buffer is full or the input ends, and returns how many bytes it put at the buffer's start.
+fn read_full<R: Read>(input: &mut R, buffer: &mut [u8]) -> io::Result<usize>
+    ensures { ReadsAtMost result buffer.new }
+{
+    let mut done = 0;
+    while done < buffer.len() {
+        let n = input.read(&mut buffer[done..])?;
+        if n == 0 {
+            break;
+        }
+        done += n;
+    }
+    Ok(done)
+}
+
+fn main(rt: HostRuntime) -> io::Result<()> {
     let mut buffer = [0u8; 65537];
-    let n = io::read_full(STDIN_FILENO, &mut buffer);
+    let n = read_full(&mut rt.stdin(), &mut buffer)?;
     let mut work = [0u32; 8192];
     let mut list = [0u32; 1024];
     let mut out = [0u8; 270000];
     let end = texts::listing(&buffer[..n], &mut work, &mut list, &mut out);
-    io::write_all(STDOUT_FILENO, &out[..end]);
+    rt.write_all(&out[..end])
 }
