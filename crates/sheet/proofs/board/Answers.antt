@@ -11,29 +11,25 @@ use Rattle.sheet.specs.Board.{endings_told}
 use Rattle.sheet.proofs.BoardLaws.{board-unchecked, board-broken, board-second, board-counted}
 use Rattle.sheet.proofs.board.Goals as goal
 
--- the check passed
-passes : (c : tie.After-enum-told) → check (start_of c).args.sheet.now (length (start_of c).args.work.now) ≡ passed
-passes c = let checked : tie.After-check = search in sym checked.check.ensures ∙ ap checked_says c.enum_told.given.1
-
 pub returns-in-Refused : goal.returns-in-Refused
 returns-in-Refused c =
     let a = c.args in
     board-unchecked a.sheet.now (length a.work.now) (sym c.check-checked.ensures ∙ ap checked_says c.in-Refused.is)
 
 pub jobs_hold-held-requires : goal.jobs_hold-held-requires
-jobs_hold-held-requires c = ap (check c.args.sheet.now) c.check-checked.kept.1.0 ∙ passes c
+jobs_hold-held-requires c = ap (check c.args.sheet.now) c.check-checked.auto.work ∙ sym c.check-checked.ensures ∙ ap checked_says c.in_default.is
 
 pub returns-then-not-held : goal.returns-then-not-held
 returns-then-not-held c =
     let a = c.args in
-    board-broken a.sheet.now (length a.work.now) (passes c) (sym c.jobs_hold-held.ensures ∙ not-true _ (ap not c.if-not-held.true))
+    board-broken a.sheet.now (length a.work.now) (sym c.check-checked.ensures ∙ ap checked_says c.in_default.is) (sym c.jobs_hold-held.ensures ∙ c.if-not-held.true)
 
 pub read_again-n-requires : goal.read_again-n-requires
 read_again-n-requires c =
     let a = c.args in
     record {
-      c = ap (check a.sheet.now) (c.jobs_hold-held.kept.1.0 ∙ c.check-checked.kept.1.0) ∙ passes c;
-      exists = board-second a.sheet.now (sym c.jobs_hold-held.ensures ∙ not-false _ (ap not c.if-not-held.false));
+      checked = ap (check a.sheet.now) (c.jobs_hold-held.auto.work ∙ c.check-checked.auto.work) ∙ sym c.check-checked.ensures ∙ ap checked_says c.in_default.is;
+      exists = board-second a.sheet.now (sym c.jobs_hold-held.ensures ∙ c.if-not-held.false);
     }
 
 pub returns : goal.returns
@@ -41,4 +37,4 @@ returns c =
     let a = c.args in
     c.tally_in.ensures
     ∙ ap endings_told c.read_again-n.ensures.here
-    ∙ board-counted a.sheet.now (length a.work.now) (passes c) (sym c.jobs_hold-held.ensures ∙ not-false _ (ap not c.if-not-held.false))
+    ∙ board-counted a.sheet.now (length a.work.now) (sym c.check-checked.ensures ∙ ap checked_says c.in_default.is) (sym c.jobs_hold-held.ensures ∙ c.if-not-held.false)

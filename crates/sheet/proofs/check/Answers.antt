@@ -9,31 +9,27 @@ use Rattle.meaning.specs.Sheet.{sound}
 use Rattle.sheet.proofs.Checks.{most-small, check-unsound, check-short, check-bodies}
 use Rattle.sheet.proofs.check.Goals as goal
 
--- the sheet is sound
-sounds : (c : tie.After-enum-told) → sound (start_of c).args.sheet.now ≡ passed
-sounds c = let judged : tie.After-sound = search in sym judged.sound.ensures ∙ ap checked_says c.enum_told.given.1
-
 pub returns-in-Refused : goal.returns-in-Refused
 returns-in-Refused c =
     let a = c.args in
     sym (check-unsound a.sheet.now (length a.work.now) _ _ (sym c.sound-known.ensures ∙ ap checked_says c.in-Refused.is))
 
 pub largest_count-most-requires : goal.largest_count-most-requires
-largest_count-most-requires c = sounds c
+largest_count-most-requires c = sym c.sound-known.ensures ∙ ap checked_says c.in_default.is
 
 pub overflow_mul-most : goal.overflow_mul-most
-overflow_mul-most c = omega (arith, c.largest_count-most.ensures, most-small _ (sounds c))
+overflow_mul-most c = omega (arith, c.largest_count-most.ensures, most-small _ (sym c.sound-known.ensures ∙ ap checked_says c.in_default.is))
 
 pub returns-then-work-most : goal.returns-then-work-most
 returns-then-work-most c =
     let a = c.args in
-    sym (check-short a.sheet.now (length a.work.now) (sounds c) (omega (arith, c.if-work-most.true, c.largest_count-most.ensures)))
+    sym (check-short a.sheet.now (length a.work.now) (sym c.sound-known.ensures ∙ ap checked_says c.in_default.is) (omega (arith, c.if-work-most.true, c.largest_count-most.ensures)))
 
 pub check_columns-requires : goal.check_columns-requires
-check_columns-requires c = record { sounds = sounds c; room = omega (arith, c.if-work-most.false, c.largest_count-most.ensures) }
+check_columns-requires c = record { sounds = sym c.sound-known.ensures ∙ ap checked_says c.in_default.is; room = omega (arith, c.if-work-most.false, c.largest_count-most.ensures) }
 
 pub returns : goal.returns
 returns c =
     let a = c.args in
     c.check_columns.ensures
-    ∙ sym (check-bodies a.sheet.now (length a.work.now) (sounds c) (omega (arith, c.if-work-most.false, c.largest_count-most.ensures)))
+    ∙ sym (check-bodies a.sheet.now (length a.work.now) (sym c.sound-known.ensures ∙ ap checked_says c.in_default.is) (omega (arith, c.if-work-most.false, c.largest_count-most.ensures)))

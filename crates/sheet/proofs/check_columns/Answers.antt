@@ -26,7 +26,7 @@ returns-in-Refused c =
 pub loop-k-preserved : goal.loop-k-preserved
 loop-k-preserved c =
     bodies-turn c.loop-k.invariant c.loop-k-test.true c.entry_at-entry.ensures c.read_column-got.ensures c.in_default.is
-    c.read_column-got.kept.1.1.0
+    c.read_column-got.auto.work
 
 -- ---- after the loop
 pub returns : goal.returns

@@ -9,28 +9,24 @@ use Rattle.sheet.proofs.Entered.{of-column, body-short, count-few, sheet-short, 
 use Rattle.sheet.proofs.LookSheets.{look_none, look-past, look-there}
 use Rattle.sheet.proofs.lookup.Goals as goal
 
--- the entry that was asked for
-opened : (c : tie.After-found2) → Opened (start_of c).args.sheet.now (start_of c).args.column c.found2.given.0.0
-opened c = let asked : tie.After-column-at = search in opened-by _ _ _ _ asked.column-at.ensures c.found2.given.1
-
 pub returns-then-count-at : goal.returns-then-count-at
 returns-then-count-at c =
     let a = c.args in
-    sym (look-past a.sheet.now a.column a.place.number _ (opened-column (opened c)) c.if-count-at.true)
+    sym (look-past a.sheet.now a.column a.place.number _ (opened-column (opened-by _ _ _ _ c.column_at-found.ensures c.in-At.is)) c.if-count-at.true)
 
 pub overflow_add-to : goal.overflow_add-to
-overflow_add-to c = omega (arith, (opened c).entry.plan_fits)
+overflow_add-to c = omega (arith, (opened-by _ _ _ _ c.column_at-found.ensures c.in-At.is).entry.plan_fits)
 
 pub overflow_add-end : goal.overflow_add-end
-overflow_add-end c = omega (arith, (opened c).entry.body_fits)
+overflow_add-end c = omega (arith, (opened-by _ _ _ _ c.column_at-found.ensures c.in-At.is).entry.body_fits)
 
 pub lookup_list-requires : goal.lookup_list-requires
 lookup_list-requires c =
-    let o = opened c in
+    let o = opened-by _ _ _ _ c.column_at-found.ensures c.in-At.is in
     record {
       short = body-short c.args.sheet.now c.in-At.entry (sheet-short o.entry (opened-here o));
       few = count-few o.entry (opened-here o);
-      c = c.if-count-at.false;
+      inside = c.if-count-at.false;
     }
 
 pub returns-in-Refused : goal.returns-in-Refused
@@ -43,10 +39,10 @@ returns-else-count-at c =
     let a = c.args in
     c.lookup_list.ensures
     ∙ of-column a.sheet.now c.in-At.entry (λ p b n. look p b n a.place.number)
-    ∙ sym (look-there a.sheet.now a.column a.place.number _ (opened-column (opened c)) c.if-count-at.false)
+    ∙ sym (look-there a.sheet.now a.column a.place.number _ (opened-column (opened-by _ _ _ _ c.column_at-found.ensures c.in-At.is)) c.if-count-at.false)
 
-pub TODO_slice-bounds-lookup-list-end : goal.TODO_slice-bounds-lookup-list-end
-TODO_slice-bounds-lookup-list-end c = omega (arith, (opened c).entry.plan_fits)
+pub slice_bounds-lookup_list-end : goal.slice_bounds-lookup_list-end
+slice_bounds-lookup_list-end c = omega (arith, (opened-by _ _ _ _ c.column_at-found.ensures c.in-At.is).entry.plan_fits)
 
-pub TODO_slice-bounds-lookup-list-end-2 : goal.TODO_slice-bounds-lookup-list-end-2
-TODO_slice-bounds-lookup-list-end-2 c = omega (arith, (opened c).entry.body_fits)
+pub slice_bounds-lookup_list-end-in-At : goal.slice_bounds-lookup_list-end-2
+slice_bounds-lookup_list-end-in-At c = omega (arith, (opened-by _ _ _ _ c.column_at-found.ensures c.in-At.is).entry.body_fits)

@@ -7,29 +7,25 @@ use Rattle.sheet.proofs.Entered.{count-few, readable, opened-here}
 use Rattle.sheet.proofs.ReadSheets.{says_none, says-short, says-full, says-fault, copy-room, says-copied}
 use Rattle.sheet.proofs.read.Goals as goal
 
--- the entry that was asked for
-opened : (c : tie.After-found2) → Opened (start_of c).args.sheet.now (start_of c).args.column c.found2.given.0.0
-opened c = let asked : tie.After-column-at = search in opened-by _ _ _ _ asked.column-at.ensures c.found2.given.1
-
 pub overflow_mul-needed : goal.overflow_mul-needed
 overflow_mul-needed c =
-    let o = opened c in
+    let o = opened-by _ _ _ _ c.column_at-found.ensures c.in-At.is in
     omega (arith, count-few o.entry (opened-here o))
 
 pub returns-then-work-needed : goal.returns-then-work-needed
-returns-then-work-needed c = says-short (opened c) c.args.work.now c.args.out.now c.if-work-needed.true
+returns-then-work-needed c = says-short (opened-by _ _ _ _ c.column_at-found.ensures c.in-At.is) c.args.work.now c.args.out.now c.if-work-needed.true
 
 pub returns-then-out-count : goal.returns-then-out-count
-returns-then-out-count c = says-full (opened c) c.args.work.now c.args.out.now c.if-work-needed.false c.if-out-count.true
+returns-then-out-count c = says-full (opened-by _ _ _ _ c.column_at-found.ensures c.in-At.is) c.args.work.now c.args.out.now c.if-work-needed.false c.if-out-count.true
 
 pub read_column-got-requires : goal.read_column-got-requires
 read_column-got-requires c =
-    let o = opened c in
+    let o = opened-by _ _ _ _ c.column_at-found.ensures c.in-At.is in
     readable o.entry (opened-here o) c.if-work-needed.false
 
 pub copy_list-requires : goal.copy_list-requires
 copy_list-requires c =
-    copy-room (opened c) c.args.work.now c.args.out.now c.if-work-needed.false c.if-out-count.false c.read_column-got.ensures
+    copy-room (opened-by _ _ _ _ c.column_at-found.ensures c.in-At.is) c.args.work.now c.args.out.now c.if-work-needed.false c.if-out-count.false c.read_column-got.ensures
     c.in-Whole.is (λ i. (c.type_inv.sheet i).fits)
 
 pub returns-in-Refused : goal.returns-in-Refused
@@ -39,10 +35,10 @@ returns-in-Refused c =
 
 pub returns-in-Refused-got : goal.returns-in-Refused-got
 returns-in-Refused-got c =
-    says-fault (opened c) c.args.work.now c.args.out.now c.if-work-needed.false c.if-out-count.false c.read_column-got.ensures
+    says-fault (opened-by _ _ _ _ c.column_at-found.ensures c.in-At.is) c.args.work.now c.args.out.now c.if-work-needed.false c.if-out-count.false c.read_column-got.ensures
     c.in-Refused-got.is
 
 pub returns-in-Whole : goal.returns-in-Whole
 returns-in-Whole c =
-    says-copied (opened c) c.args.work.now c.args.out.now c.if-work-needed.false c.if-out-count.false c.read_column-got.ensures
+    says-copied (opened-by _ _ _ _ c.column_at-found.ensures c.in-At.is) c.args.work.now c.args.out.now c.if-work-needed.false c.if-out-count.false c.read_column-got.ensures
     c.in-Whole.is (λ i. (c.type_inv.sheet i).fits) c.copy_list.ensures
