@@ -44,5 +44,5 @@ returns-else-count-at c =
 pub slice_bounds-lookup_list-end : goal.slice_bounds-lookup_list-end
 slice_bounds-lookup_list-end c = omega (arith, (opened-by _ _ _ _ c.column_at-found.ensures c.in-At.is).entry.plan_fits)
 
-pub slice_bounds-lookup_list-end-in-At : goal.slice_bounds-lookup_list-end-2
+pub slice_bounds-lookup_list-end-in-At : goal.slice_bounds-lookup_list-end-in-At
 slice_bounds-lookup_list-end-in-At c = omega (arith, (opened-by _ _ _ _ c.column_at-found.ensures c.in-At.is).entry.body_fits)
