@@ -10,7 +10,7 @@ pub put_sheet-end-requires : goal.put_sheet-end-requires
 put_sheet-end-requires c =
     let a = c.args in
     let passes = listing-passes a.sheet.now a.work.now c.requires.0 _ c.check-checked.ensures c.in-Passed.is in
-    (record { passes = passes; works = c.check-checked.kept.1.0 ∙ c.requires.0; lists = c.requires.1 }, omega arith)
+    (record { passes = passes; works = c.check-checked.auto.work ∙ c.requires.0; lists = c.requires.1 }, omega arith)
 
 pub returns-in-Passed : goal.returns-in-Passed
 returns-in-Passed c =

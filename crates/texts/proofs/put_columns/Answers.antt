@@ -14,7 +14,7 @@ pub loop-k-init : goal.loop-k-init
 loop-k-init c =
     record {
       passing = c.requires.0;
-      c = c.column_count-columns.ensures.0;
+      counted = c.column_count-columns.ensures.0;
       works = refl;
       lists = refl;
       early = c.requires.1;
@@ -28,7 +28,7 @@ put_column-to-requires c =
 
 pub loop-k-preserved : goal.loop-k-preserved
 loop-k-preserved c =
-    listing-turn c.loop-k.invariant c.loop-k-test.true c.put_column-to.kept.1.1.0 c.put_column-to.kept.1.1.1.0
+    listing-turn c.loop-k.invariant c.loop-k-test.true c.put_column-to.auto.work c.put_column-to.auto.list
     c.put_column-to.ensures
 
 pub shape_of-work : goal.shape_of-work

@@ -35,7 +35,7 @@ returns c =
     let few : c.count_at-count.result ≤ most_numbers = omega (arith, c.count_at-count.ensures, listed-few c.requires.0) in
     let bytes : Below 256 a.sheet.now = λ i. (c.type_inv.sheet i).fits in
     let are = listed-numbers c.requires.0 bytes a.list.now c.count_at-count.ensures c.read.ensures.1 in
-    let long = length-take c.count_at-count.result c.read.last.1.1.1.0 in
+    let long = length-take c.count_at-count.result c.read.new.out in
     record {
       wrote = column-lines a.sheet.now a.column are c.put_head-head.ensures.wrote c.put_numbers.ensures.wrote;
       short = omega (arith, few, long, c.put_head-head.ensures.short, c.put_numbers.ensures.short);
