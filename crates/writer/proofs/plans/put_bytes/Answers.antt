@@ -1,7 +1,5 @@
 -- `put_bytes` has put those before i. Assumes nothing.
-use Prim.Native.Nat.{◌-◌}
-use borrow.Author.Rules.{rules}
-use Rattle.stages.proofs.Copies.{Copying, copying-start, copying-turn, copying-end}
+use Rattle.stages.proofs.Copies.{copying-start, copying-turn, copying-end}
 use Rattle.writer.proofs.plans.put_bytes.Goals as goal
 
 pub loop-i-init : goal.loop-i-init

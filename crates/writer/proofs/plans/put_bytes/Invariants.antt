@@ -1,7 +1,6 @@
 -- `put_bytes` has put those before i. Assumes nothing.
 use Prim.Native.Nat.{◌-◌}
-use borrow.Author.Rules.{rules}
-use Rattle.stages.proofs.Copies.{Copying, copying-start, copying-turn, copying-end}
+use Rattle.stages.proofs.Copies.{Copying}
 use Rattle.writer.proofs.plans.put_bytes.Given as goal
 
 abbrev pub invariant-loop-i : goal.invariant-loop-i

@@ -1,6 +1,5 @@
 -- `used_plan` answers the default for 15 zeros, else a copy. Assumes nothing.
 use mathlib.Core.Path.{refl}
-use borrow.Author.Rules.{rules}
 use Rattle.writer.proofs.Entries.{default-used, copy-used}
 use Rattle.writer.proofs.plans.used_plan.Goals as goal
 

@@ -1,5 +1,4 @@
 -- `put_column` puts a body, and its entry where the body ends in time. Assumes nothing.
-use borrow.Author.Rules.{rules}
 use Rattle.writer.proofs.PutColumn.{put-over, put_whole}
 use Rattle.writer.proofs.sheets.put_column.Goals as goal
 

@@ -1,5 +1,4 @@
 -- `put_entry` puts part by part. Assumes nothing.
-use borrow.Author.Rules.{rules}
 use Rattle.meaning.specs.Sheet.{Entry}
 use Rattle.writer.proofs.Entries.{entry-laid}
 use Rattle.writer.proofs.sheets.put_entry.Goals as goal

@@ -1,11 +1,9 @@
 -- `put_sheet` has laid the columns below k. Assumes nothing.
-use Prim.Native.Nat.{◌-◌}
 use mathlib.Core.Path.{◌∙◌}
 use native.Mathlib.Omega.{arith}
 use lib.ListN.{length}
-use borrow.Author.Rules.{rules}
 use Rattle.table.proofs.Slots.{slot_small}
-use Rattle.writer.proofs.Passes.{Passing, passing-start, passing-slot, passing-list, passing-adds, passing-room, passing-turn, passing-over, passing-end}
+use Rattle.writer.proofs.Passes.{passing-start, passing-slot, passing-list, passing-adds, passing-room, passing-turn, passing-over, passing-end}
 use Rattle.writer.proofs.sheets.put_sheet.Goals as goal
 
 -- ---- before the loop
@@ -25,7 +23,7 @@ entry_start-slot-requires c = passing-slot c.loop-k.invariant c.loop-k-test.true
 pub put_column-at-requires : goal.put_column-at-requires
 put_column-at-requires c =
     passing-room c.loop-k.invariant c.loop-k-test.true c.whole-many.ensures.0 c.used_plan-plan.ensures
-    c.work-1.given c.entry_start-slot.ensures
+    c.copy_list.auto.out c.entry_start-slot.ensures
 
 pub returns-then-at-gt-MOST_BYTES : goal.returns-then-at-gt-MOST_BYTES
 returns-then-at-gt-MOST_BYTES c =
@@ -39,7 +37,7 @@ pub loop-k-preserved : goal.loop-k-preserved
 loop-k-preserved c =
     passing-turn c.loop-k.invariant c.loop-k-test.true c.whole-many.ensures.0 c.used_plan-plan.ensures
     c.copy_list.ensures c.put_column-at.ensures c.entry_start-slot.ensures c.if-at-gt-MOST_BYTES.false
-    (c.work-in-loop-k-1.given ∙ c.work-1.given) c.out-in-loop-k-1.given
+    (c.put_column-at.auto.work ∙ c.copy_list.auto.out) c.put_column-at.auto.out
 
 -- ---- after the loop
 pub returns : goal.returns

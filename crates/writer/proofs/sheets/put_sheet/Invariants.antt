@@ -1,11 +1,6 @@
 -- `put_sheet` has laid the columns below k. Assumes nothing.
 use Prim.Native.Nat.{◌-◌}
-use mathlib.Core.Path.{◌∙◌}
-use native.Mathlib.Omega.{arith}
-use lib.ListN.{length}
-use borrow.Author.Rules.{rules}
-use Rattle.table.proofs.Slots.{slot_small}
-use Rattle.writer.proofs.Passes.{Passing, passing-start, passing-slot, passing-list, passing-adds, passing-room, passing-turn, passing-over, passing-end}
+use Rattle.writer.proofs.Passes.{Passing}
 use Rattle.writer.proofs.sheets.put_sheet.Given as goal
 
 abbrev pub invariant-loop-k : goal.invariant-loop-k

@@ -1,8 +1,5 @@
 -- `each_holds` has asked the orders below k. Assumes nothing.
-use Prim.Native.Nat.{◌-◌}
-use lib.ListN.{length}
-use borrow.Author.Rules.{rules}
-use Rattle.writer.proofs.Holds.{OrdersBelow, orders-start, kind-fails, count-fails, orders-turn, orders-end}
+use Rattle.writer.proofs.Holds.{orders-start, kind-fails, count-fails, orders-turn, orders-end}
 use Rattle.writer.proofs.slices.each_holds.Goals as goal
 
 pub loop-k-init : goal.loop-k-init

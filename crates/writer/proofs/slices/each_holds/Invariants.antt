@@ -1,8 +1,7 @@
 -- `each_holds` has asked the orders below k. Assumes nothing.
 use Prim.Native.Nat.{◌-◌}
 use lib.ListN.{length}
-use borrow.Author.Rules.{rules}
-use Rattle.writer.proofs.Holds.{OrdersBelow, orders-start, kind-fails, count-fails, orders-turn, orders-end}
+use Rattle.writer.proofs.Holds.{OrdersBelow}
 use Rattle.writer.proofs.slices.each_holds.Given as goal
 
 abbrev pub invariant-loop-k : goal.invariant-loop-k

@@ -1,8 +1,5 @@
 -- `judge_orders` has judged the plans below k. Assumes nothing.
-use Prim.Native.Nat.{◌-◌}
-use lib.ListN.{length}
-use borrow.Author.Rules.{rules}
-use Rattle.writer.proofs.Turns.{JudgedBelow, judged-start, judged-turn, judged-refuse, judged-end}
+use Rattle.writer.proofs.Turns.{judged-start, judged-turn, judged-refuse, judged-end}
 use Rattle.writer.proofs.slices.judge_orders.Goals as goal
 
 pub loop-k-init : goal.loop-k-init

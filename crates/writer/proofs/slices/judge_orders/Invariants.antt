@@ -1,8 +1,7 @@
 -- `judge_orders` has judged the plans below k. Assumes nothing.
 use Prim.Native.Nat.{◌-◌}
 use lib.ListN.{length}
-use borrow.Author.Rules.{rules}
-use Rattle.writer.proofs.Turns.{JudgedBelow, judged-start, judged-turn, judged-refuse, judged-end}
+use Rattle.writer.proofs.Turns.{JudgedBelow}
 use Rattle.writer.proofs.slices.judge_orders.Given as goal
 
 abbrev pub invariant-loop-k : goal.invariant-loop-k

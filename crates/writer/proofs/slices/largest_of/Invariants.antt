@@ -1,10 +1,7 @@
 -- `largest_of` has the largest of the counts below k. Assumes nothing.
 use Prim.Native.Nat.{◌-◌}
-use mathlib.Core.Logic.{⊎_elim}
-use native.Mathlib.Omega.{arith}
 use lib.ListN.{length}
-use borrow.Author.Rules.{rules}
-use Rattle.writer.proofs.Sums.{Largest, largest-start, largest-turn, largest-end}
+use Rattle.writer.proofs.Sums.{Largest}
 use Rattle.writer.proofs.slices.largest_of.Given as goal
 
 abbrev pub invariant-loop-k : goal.invariant-loop-k

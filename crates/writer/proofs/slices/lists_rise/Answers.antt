@@ -1,11 +1,8 @@
 -- `lists_rise` has asked the lists below k. Assumes nothing.
 use mathlib.Core.Path.{ap}
 use mathlib.Core.Bool.{not}
-use Prim.Native.Nat.{◌-◌}
 use native.Mathlib.Omega.{arith}
-use lib.ListN.{length}
-use borrow.Author.Rules.{rules}
-use Rattle.writer.proofs.Turns.{RisingBelow, rising-start, rising-within, rising-turn, rising-fail, rising-end}
+use Rattle.writer.proofs.Turns.{rising-start, rising-within, rising-turn, rising-fail, rising-end}
 use Rattle.writer.proofs.slices.lists_rise.Goals as goal
 
 pub loop-k-init : goal.loop-k-init

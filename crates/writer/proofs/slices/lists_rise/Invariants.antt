@@ -1,9 +1,7 @@
 -- `lists_rise` has asked the lists below k. Assumes nothing.
 use Prim.Native.Nat.{◌-◌}
-use native.Mathlib.Omega.{arith}
 use lib.ListN.{length}
-use borrow.Author.Rules.{rules}
-use Rattle.writer.proofs.Turns.{RisingBelow, rising-start, rising-within, rising-turn, rising-fail, rising-end}
+use Rattle.writer.proofs.Turns.{RisingBelow}
 use Rattle.writer.proofs.slices.lists_rise.Given as goal
 
 abbrev pub invariant-loop-k : goal.invariant-loop-k

@@ -1,7 +1,6 @@
 -- `orders_hold` asks all that 11 does. Assumes nothing.
 use mathlib.Core.Path.{ap}
 use mathlib.Core.Bool.{not}
-use borrow.Author.Rules.{rules}
 use Rattle.writer.proofs.Holds.{hold-many, hold-plans, hold-counts, hold-entries, hold-sum}
 use Rattle.writer.proofs.slices.orders_hold.Goals as goal
 

@@ -1,8 +1,5 @@
 -- `sum_of` has the sum of the counts below k. Assumes nothing.
-use Prim.Native.Nat.{◌-◌}
-use lib.ListN.{length}
-use borrow.Author.Rules.{rules}
-use Rattle.writer.proofs.Sums.{Summing, summing_start, summing-turn, summing-end}
+use Rattle.writer.proofs.Sums.{summing_start, summing-turn, summing-end}
 use Rattle.writer.proofs.slices.sum_of.Goals as goal
 
 pub loop-k-init : goal.loop-k-init

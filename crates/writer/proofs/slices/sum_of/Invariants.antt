@@ -1,8 +1,7 @@
 -- `sum_of` has the sum of the counts below k. Assumes nothing.
 use Prim.Native.Nat.{◌-◌}
 use lib.ListN.{length}
-use borrow.Author.Rules.{rules}
-use Rattle.writer.proofs.Sums.{Summing, summing_start, summing-turn, summing-end}
+use Rattle.writer.proofs.Sums.{Summing}
 use Rattle.writer.proofs.slices.sum_of.Given as goal
 
 abbrev pub invariant-loop-k : goal.invariant-loop-k
