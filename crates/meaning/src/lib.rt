@@ -1,7 +1,6 @@
 // The places, offsets and answers in which every crate speaks. What each answer says in document 01's numbers is in specs/Says.antt.
 #![tactic(auto)]
 
-
 // Document 01's limits.
 pub const MOST_COLUMNS: usize = 16;
 

@@ -1,14 +1,8 @@
 -- The first i numbers have been laid. Assumes nothing.
-use borrow.Author.Rules.{rules}
-use Prim.Native.Nat.{ℕ, ◌+◌, ◌≤◌, ◌<◌, ◌-◌}
-use mathlib.Core.Path.{◌≡◌, refl, sym, ap, ◌∙◌}
-use mathlib.Core.List.{List}
-use native.Mathlib.Numerals.{add-one}
-use native.Mathlib.Omega.{arith}
-use lib.ListN.{length, get_or, take, set, length-set}
-use lib.Seq.{sets, take-suc, length-take-le}
-use Rattle.meaning.specs.Limits.{unit_places}
-use Rattle.meaning.proofs.Stores.{sets-snoc}
+use Prim.Native.Nat.{◌≤◌, ◌-◌}
+use mathlib.Core.Path.{◌≡◌}
+use lib.ListN.{length, take}
+use lib.Seq.{sets}
 use Rattle.leaves.proofs.lay.Given as goal
 
 abbrev pub invariant-loop-i : goal.invariant-loop-i

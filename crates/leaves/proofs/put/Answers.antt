@@ -1,7 +1,5 @@
-
 use mathlib.Core.Path.{sym}
 use lib.Seq.{set_out}
-use borrow.Author.Rules.{rules}
 use Rattle.leaves.proofs.put.Goals as goal
 
 pub returns-else-here-out : goal.returns-else-here-out

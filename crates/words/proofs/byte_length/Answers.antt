@@ -1,8 +1,6 @@
-
 use native.Mathlib.Omega.{arith}
 use lib.Count.{leading_le}
 use Rattle.words.proofs.DataBytes.{length-of-zero, length-of-some}
-use borrow.Author.Rules.{rules}
 use Rattle.words.proofs.byte_length.Goals as goal
 
 pub returns-then-z-eq32 : goal.returns-then-z-eq32

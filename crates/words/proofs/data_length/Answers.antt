@@ -1,5 +1,5 @@
 -- The lengths of the first i numbers, and what is left. Assumes nothing.
-use Prim.Native.Nat.{ℕ, ◌+◌, ◌-◌, ◌*◌, ◌^◌, ◌≤◌, ◌<◌}
+use Prim.Native.Nat.{ℕ, ◌+◌, ◌-◌, ◌≤◌, ◌<◌}
 use mathlib.Core.Path.{◌≡◌}
 use mathlib.Core.List.{List}
 use native.Mathlib.Nat.{add-zero, add_assoc, zero-add, sub-zero}
@@ -8,7 +8,6 @@ use lib.ListN.{length, length-append, get_or}
 use Rattle.meaning.specs.DataBytes.{byte_length, fewest, data_bytes}
 use Rattle.meaning.specs.Places.{part}
 use Rattle.words.proofs.DataBytes.{held, few-length, data-part, data-part-none}
-use borrow.Author.Rules.{rules}
 use Rattle.words.proofs.data_length.Invariants.{long}
 use Rattle.words.proofs.data_length.Goals as goal
 

@@ -2,13 +2,9 @@
 use Prim.Native.Nat.{ℕ, ◌+◌, ◌-◌, ◌*◌, ◌^◌, ◌≤◌, ◌<◌}
 use mathlib.Core.Path.{◌≡◌}
 use mathlib.Core.List.{List}
-use native.Mathlib.Nat.{add-zero, add_assoc, zero-add, sub-zero}
-use native.Mathlib.Omega.{arith}
-use lib.ListN.{length, length-append, get_or}
-use Rattle.meaning.specs.DataBytes.{byte_length, fewest, data_bytes}
+use lib.ListN.{length}
+use Rattle.meaning.specs.DataBytes.{data_bytes}
 use Rattle.meaning.specs.Places.{part}
-use Rattle.words.proofs.DataBytes.{held, few-length, data-part, data-part-none}
-use borrow.Author.Rules.{rules}
 use Rattle.words.proofs.data_length.Given as goal
 
 -- the data of n numbers from a place on

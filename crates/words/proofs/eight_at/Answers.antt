@@ -1,6 +1,5 @@
 -- `eight_at` reads two words. Assumes nothing.
 use native.Mathlib.Omega.{arith}
-use borrow.Author.Rules.{rules}
 use Rattle.words.proofs.Words.{words-number}
 use Rattle.words.proofs.eight_at.Goals as goal
 

@@ -1,8 +1,6 @@
-
 use native.Mathlib.Omega.{arith}
 use mathlib.Core.Path.{◌≡◌, sym, ◌∙◌}
 use Rattle.words.proofs.Straight.{number-1, number-2, number-3, number-4}
-use borrow.Author.Rules.{rules}
 use Rattle.words.proofs.number_at.Goals as goal
 
 pub returns-then-len-eq1 : goal.returns-then-len-eq1

@@ -1,13 +1,9 @@
 -- What is still to be put, put from here on, makes the whole; a turn puts one number. Assumes nothing.
-use Prim.Native.Nat.{ℕ, ◌+◌, ◌-◌}
+use Prim.Native.Nat.{ℕ, ◌-◌}
 use mathlib.Core.List.{List}
-use native.Mathlib.Omega.{arith}
-use lib.ListN.{get_or}
 use Rattle.meaning.specs.DataBytes.{data_bytes}
 use Rattle.meaning.specs.Places.{part}
-use Rattle.words.proofs.DataBytes.{data-part, data-part-none}
-use Rattle.words.proofs.Puts.{PutSo, put-start, put-turn, put-end, put-long, put-few, data-bound}
-use borrow.Author.Rules.{rules}
+use Rattle.words.proofs.Puts.{PutSo}
 use Rattle.words.proofs.put_data.Given as goal
 
 -- the data of so many numbers from a place on

@@ -2,7 +2,6 @@
 use native.Mathlib.Omega.{arith}
 use lib.ListN.{length-set}
 use Rattle.words.proofs.Straight.{fewest-1, fewest-2, fewest-3, fewest-4}
-use borrow.Author.Rules.{rules}
 use Rattle.words.proofs.put_fewest.Goals as goal
 
 pub returns-then-x-lt256 : goal.returns-then-x-lt256

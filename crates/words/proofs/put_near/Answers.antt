@@ -5,7 +5,6 @@ use mathlib.Core.List.{List}
 use Prim.Native.Nat.{ℕ, ◌+◌, ◌/◌, ◌%◌}
 use lib.ListN.{set}
 use Rattle.words.proofs.Straight.{fewest-1, fewest-2, fewest-3, fewest-4}
-use borrow.Author.Rules.{rules}
 use Rattle.words.proofs.put_near.Goals as goal
 
 pub returns-then-x-lt256 : goal.returns-then-x-lt256

@@ -1,8 +1,6 @@
 -- What is still to be put, put from here on, makes the whole; a turn puts one byte. Assumes nothing.
-use Prim.Native.Nat.{◌-◌}
 use mathlib.Core.Path.{refl}
-use Rattle.words.proofs.Puts.{NumberSo, number-start, number-long, number-turn, number-end}
-use borrow.Author.Rules.{rules}
+use Rattle.words.proofs.Puts.{number-start, number-long, number-turn, number-end}
 use Rattle.words.proofs.put_number.Goals as goal
 
 pub loop-i-init : goal.loop-i-init

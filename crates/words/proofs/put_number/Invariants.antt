@@ -1,8 +1,6 @@
 -- What is still to be put, put from here on, makes the whole; a turn puts one byte. Assumes nothing.
 use Prim.Native.Nat.{◌-◌}
-use mathlib.Core.Path.{refl}
-use Rattle.words.proofs.Puts.{NumberSo, number-start, number-long, number-turn, number-end}
-use borrow.Author.Rules.{rules}
+use Rattle.words.proofs.Puts.{NumberSo}
 use Rattle.words.proofs.put_number.Given as goal
 
 abbrev pub invariant-loop-i : goal.invariant-loop-i

@@ -1,6 +1,4 @@
-
 use Rattle.meaning.specs.Bytes.{word_at}
-use borrow.Author.Rules.{rules}
 use Rattle.words.proofs.word_at.Goals as goal
 
 pub returns : goal.returns
