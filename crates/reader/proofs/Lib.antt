@@ -2,4 +2,3 @@
 pub mod Openings
 pub mod Calls
 pub mod Unique
-pub mod Lent

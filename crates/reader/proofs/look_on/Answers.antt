@@ -1,6 +1,5 @@
 -- `look_on` looks up, and one more than a place at which a number was found cannot wrap. Assumes nothing.
 use native.Mathlib.Omega.{arith}
-use borrow.Author.Rules.{rules}
 use Rattle.reader.proofs.Openings.{found_below, told-by, told-next}
 use Rattle.reader.proofs.look_on.Goals as goal
 

@@ -1,6 +1,5 @@
 -- `part_of` hands the sheet back where it has the column, and else an empty part of it. Assumes nothing.
 use mathlib.Core.Path.{sym, ap}
-use borrow.Author.Rules.{rules}
 use Rattle.meaning.specs.Answer.{list, number}
 use Rattle.table.proofs.ColumnLaws.{opened-by, refused-by}
 use Rattle.reader.proofs.Openings.{open-there, open-refused}
