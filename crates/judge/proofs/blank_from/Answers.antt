@@ -1,10 +1,5 @@
 -- `blank_from` has asked the bytes before i, and asks the rest. Assumes nothing.
-use Prim.Native.Nat.{◌-◌}
-use mathlib.Core.Path.{◌≡◌, refl}
-use lib.Dec.{eqb}
-use lib.ListN.{length, drop}
-use borrow.Author.Rules.{rules}
-use Rattle.meaning.specs.Lists.{all}
+use mathlib.Core.Path.{refl}
 use Rattle.judge.proofs.FrontLaws.{blank_turn, blank-fail, blank-end}
 use Rattle.judge.proofs.blank_from.Goals as goal
 

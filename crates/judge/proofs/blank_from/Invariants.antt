@@ -1,11 +1,9 @@
 -- `blank_from` has asked the bytes before i, and asks the rest. Assumes nothing.
 use Prim.Native.Nat.{◌-◌}
-use mathlib.Core.Path.{◌≡◌, refl}
+use mathlib.Core.Path.{◌≡◌}
 use lib.Dec.{eqb}
 use lib.ListN.{length, drop}
-use borrow.Author.Rules.{rules}
 use Rattle.meaning.specs.Lists.{all}
-use Rattle.judge.proofs.FrontLaws.{blank_turn, blank-fail, blank-end}
 use Rattle.judge.proofs.blank_from.Given as goal
 
 abbrev pub invariant-loop-i : goal.invariant-loop-i

@@ -1,5 +1,4 @@
 -- `judge` is the definition's first test and what `judge_when` says. Assumes nothing.
-use borrow.Author.Rules.{rules}
 use Rattle.meaning.specs.Plan.{judge}
 use Rattle.judge.proofs.judge.Goals as goal
 

@@ -1,7 +1,6 @@
 -- `judge_when` refuses in the definition's order. Assumes nothing.
 use mathlib.Core.Path.{ap}
 use mathlib.Core.Bool.{not}
-use borrow.Author.Rules.{rules}
 use Rattle.judge.proofs.FrontLaws.{unknown, malformed, unfit, passed-all}
 use Rattle.judge.proofs.judge_when.Goals as goal
 

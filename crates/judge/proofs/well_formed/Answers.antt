@@ -1,5 +1,4 @@
 -- `well_formed` asks for the length, for a good plan and for zeros after it. Assumes nothing.
-use borrow.Author.Rules.{rules}
 use Rattle.judge.proofs.FrontLaws.{formed-short, formed-bad, formed-end}
 use Rattle.judge.proofs.well_formed.Goals as goal
 

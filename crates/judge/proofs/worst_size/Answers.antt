@@ -3,7 +3,6 @@ use mathlib.Core.Bool.{not}
 use Prim.Native.Nat.{ℕ}
 use mathlib.Core.Path.{refl, ap}
 use borrow.Author.Tests.{not-true, not-false, le-leb, lt-leb}
-use borrow.Author.Rules.{rules}
 use Rattle.meaning.specs.Answer.{given}
 use Rattle.meaning.specs.Plan.{plan_of, worst_size}
 use Rattle.judge.proofs.FrontLaws.{need-passed, need-refused}

@@ -1,13 +1,12 @@
 -- Strict reading by a plan: what the callees ensure is handed to the law of its stage. Assumes nothing.
-use Prim.Native.Nat.{ℕ, ◌+◌, ◌-◌, ◌*◌, ◌<◌}
+use Prim.Native.Nat.{◌-◌}
 use mathlib.Core.Path.{refl, sym, ◌∙◌}
 use native.Mathlib.Omega.{arith}
 use lib.ListN.{length}
-use borrow.Author.Rules.{rules}
 use Rattle.meaning.specs.Places.{Below}
 use Rattle.judge.proofs.PlanLaws.{at-bad, at_code, at-reference, at-differences, at-runs}
 use Rattle.codes.proofs.Numbered.{laws}
-use Rattle.stages.proofs.Headers.{Headed, headed, headless}
+use Rattle.stages.proofs.Headers.{headed, headless}
 use Rattle.stages.proofs.Parts.{part-short, part-below}
 use Rattle.stages.proofs.Rooms.{fits-list, fits-inner, fits-runs, fits-values, fits-lengths, fits-spread}
 use Rattle.plan_read.proofs.Steps.{whole_is, step-bad, step-code, step-as, step-reference-short, step-reference-stop, step-reference}

@@ -1,6 +1,5 @@
 -- `read_list`: the whole plan, from the first place on. Assumes nothing.
 use native.Mathlib.Omega.{arith}
-use borrow.Author.Rules.{rules}
 use Rattle.meaning.specs.Plan.{plan_of}
 use Rattle.stages.proofs.Rooms.{top-room}
 use Rattle.plan_read.proofs.read_list.Goals as goal

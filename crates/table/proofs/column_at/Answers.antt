@@ -1,10 +1,7 @@
 -- `column_at` asks whether the sheet is sound, then whether the column is there. Assumes nothing.
-use mathlib.Core.Path.{◌≡◌, sym, ap, ◌∙◌}
+use mathlib.Core.Path.{sym, ap, ◌∙◌}
 use native.Mathlib.Omega.{arith}
-use borrow.Author.Rules.{rules}
-use Rattle.meaning.specs.Answer.{passed}
 use Rattle.meaning.specs.Says.{checked_says}
-use Rattle.meaning.specs.Sheet.{sound}
 use Rattle.table.proofs.ColumnLaws.{column-unsound, column-none, column-there}
 use Rattle.table.proofs.Sounds.{sound-sheet}
 use Rattle.table.proofs.column_at.Goals as goal

@@ -1,9 +1,7 @@
 -- `fetch` hands back the body that the entry names, or an empty part. Assumes nothing.
 use mathlib.Core.Path.{sym, ap}
 use native.Mathlib.Omega.{arith}
-use borrow.Author.Rules.{rules}
 use Rattle.meaning.specs.Answer.{list, number}
-use Rattle.table.specs.Entries.{Opened}
 use Rattle.table.proofs.ColumnLaws.{opened-by, refused-by, fetch-body, fetch-refused}
 use Rattle.table.proofs.fetch.Goals as goal
 

@@ -1,9 +1,6 @@
 -- `largest_count` has the largest count of the columns below k. Assumes nothing.
-use Prim.Native.Nat.{◌-◌}
-use mathlib.Core.Logic.{⊎_elim}
 use native.Mathlib.Omega.{arith}
-use borrow.Author.Rules.{rules}
-use Rattle.table.proofs.EntryLaws.{LargestSo, largest-first, largest-turn, largest-end}
+use Rattle.table.proofs.EntryLaws.{largest-first, largest-turn, largest-end}
 use Rattle.table.proofs.Sounds.{sound-sheet}
 use Rattle.table.proofs.largest_count.Goals as goal
 use Rattle.table.proofs.largest_count.Goals.{then-most-count, else-most-count}

@@ -3,7 +3,6 @@ use mathlib.Core.Path.{ap}
 use mathlib.Core.Bool.{not}
 use mathlib.Core.Path.{sym, ◌∙◌}
 use borrow.Author.Tests.{not-true, not-false}
-use borrow.Author.Rules.{rules}
 use Rattle.table.proofs.Sounds.{holds, refused-sheet, refused-table, by-plans}
 use Rattle.table.proofs.sound.Goals as goal
 

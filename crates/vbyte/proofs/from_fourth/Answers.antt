@@ -2,7 +2,6 @@
 use Prim.Native.Nat.{◌^◌}
 use mathlib.Core.Path.{refl, ◌∙◌}
 use native.Mathlib.Omega.{arith}
-use borrow.Author.Rules.{rules}
 use Rattle.vbyte.proofs.Steps.{later-none, later_last, later_more, later-big, later-fifth}
 use Rattle.vbyte.proofs.from_fourth.Goals as goal
 

@@ -1,6 +1,5 @@
 -- `vbyte::number_at` meets its contract: each test is a law's premise. Assumes nothing.
 use mathlib.Core.Path.{refl, ◌∙◌}
-use borrow.Author.Rules.{rules}
 use Rattle.vbyte.proofs.Steps.{number-none, number-one, number_more}
 use Rattle.vbyte.proofs.number_at.Goals as goal
 

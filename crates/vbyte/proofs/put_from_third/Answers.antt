@@ -1,7 +1,6 @@
 -- `vbyte::put_from_third` meets its contract: each byte that others follow leaves a smaller number to put. Assumes nothing.
 use mathlib.Core.Path.{refl}
 use native.Mathlib.Omega.{arith}
-use borrow.Author.Rules.{rules}
 use Rattle.vbyte.proofs.Puts.{put_last, put-more}
 use Rattle.vbyte.proofs.put_from_third.Goals as goal
 

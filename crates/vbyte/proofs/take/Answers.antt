@@ -1,9 +1,7 @@
 -- `vbyte::take` meets its contract: numbers of one byte, and then each turn takes one number. Assumes nothing.
-use Prim.Native.Nat.{◌-◌}
 use mathlib.Core.Path.{refl, ◌∙◌}
 use native.Mathlib.Omega.{arith}
-use borrow.Author.Rules.{rules}
-use Rattle.vbyte.proofs.Takes.{ones-long, Onward, onward-turn, onward-end}
+use Rattle.vbyte.proofs.Takes.{ones-long, onward-turn, onward-end}
 use Rattle.vbyte.proofs.take.Goals as goal
 
 pub overflow_add-to : goal.overflow_add-to

@@ -1,9 +1,6 @@
 -- `vbyte::take` meets its contract: numbers of one byte, and then each turn takes one number. Assumes nothing.
 use Prim.Native.Nat.{◌-◌}
-use mathlib.Core.Path.{refl, ◌∙◌}
-use native.Mathlib.Omega.{arith}
-use borrow.Author.Rules.{rules}
-use Rattle.vbyte.proofs.Takes.{ones-long, Onward, onward-turn, onward-end}
+use Rattle.vbyte.proofs.Takes.{Onward}
 use Rattle.vbyte.proofs.take.Given as goal
 
 abbrev pub invariant-loop-i : goal.invariant-loop-i

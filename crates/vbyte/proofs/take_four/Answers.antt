@@ -1,7 +1,6 @@
 -- `vbyte::take_four` meets its contract: four bytes below 128 are stored, or nothing is. Assumes nothing.
 use native.Mathlib.Omega.{arith}
 use lib.ListN.{length-set}
-use borrow.Author.Rules.{rules}
 use Rattle.vbyte.proofs.Takes.{ones-four}
 use Rattle.vbyte.proofs.take_four.Goals as goal
 

@@ -1,10 +1,6 @@
 -- `vbyte::take_ones` meets its contract: each turn takes four numbers of one byte. Assumes nothing.
 use Prim.Native.Nat.{◌-◌}
-use mathlib.Core.Path.{refl}
-use native.Mathlib.Omega.{arith}
-use borrow.Author.Rules.{rules}
 use Rattle.vbyte.specs.Numbers.{Ones}
-use Rattle.vbyte.proofs.Takes.{ones_none, ones-long, ones-more}
 use Rattle.vbyte.proofs.take_ones.Given as goal
 
 abbrev pub invariant-loop-n : goal.invariant-loop-n

@@ -1,7 +1,6 @@
 -- `vbyte::unit` meets its contract: the unit is the number at its offset. Assumes nothing.
 use mathlib.Core.Path.{refl, sym}
 use native.Mathlib.Omega.{arith}
-use borrow.Author.Rules.{rules}
 use Rattle.vbyte.proofs.Steps.{unit-given, unit-refused}
 use Rattle.vbyte.proofs.unit.Goals as goal
 

@@ -1,7 +1,5 @@
 -- `vbyte::write` meets its contract: the loop writes one number a turn. Assumes nothing.
-use Prim.Native.Nat.{◌-◌}
-use borrow.Author.Rules.{rules}
-use Rattle.vbyte.proofs.Puts.{Written, write-start, write-long, write-room, write-turn, write-end}
+use Rattle.vbyte.proofs.Puts.{write-start, write-long, write-room, write-turn, write-end}
 use Rattle.vbyte.proofs.write.Goals as goal
 
 pub loop-i-init : goal.loop-i-init

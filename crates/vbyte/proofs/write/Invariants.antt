@@ -1,7 +1,6 @@
 -- `vbyte::write` meets its contract: the loop writes one number a turn. Assumes nothing.
 use Prim.Native.Nat.{◌-◌}
-use borrow.Author.Rules.{rules}
-use Rattle.vbyte.proofs.Puts.{Written, write-start, write-long, write-room, write-turn, write-end}
+use Rattle.vbyte.proofs.Puts.{Written}
 use Rattle.vbyte.proofs.write.Given as goal
 
 abbrev pub invariant-loop-i : goal.invariant-loop-i

@@ -1,12 +1,8 @@
 -- The numbers at the first places stand in work, looked up one by one. Assumes nothing.
-use Prim.Native.Nat.{◌-◌, ◌≤◌}
 use mathlib.Core.Path.{sym, ap, ◌∙◌}
 use native.Mathlib.Omega.{arith}
-use borrow.Author.Rules.{rules}
-use Rattle.meaning.specs.Direct.{look_direct}
 use Rattle.meaning.specs.Says.{found_says}
-use Rattle.codes.specs.Firsts.{Space}
-use Rattle.codes.proofs.Lookings.{Laid, laid_none, laid_one, firsts-stop, firsts-all}
+use Rattle.codes.proofs.Lookings.{laid_none, laid_one, firsts-stop, firsts-all}
 use Rattle.codes.proofs.directly.firsts_direct.Goals as goal
 
 pub loop-number-init : goal.loop-number-init

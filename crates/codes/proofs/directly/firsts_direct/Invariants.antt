@@ -1,12 +1,8 @@
 -- The numbers at the first places stand in work, looked up one by one. Assumes nothing.
 use Prim.Native.Nat.{◌-◌, ◌≤◌}
-use mathlib.Core.Path.{sym, ap, ◌∙◌}
-use native.Mathlib.Omega.{arith}
-use borrow.Author.Rules.{rules}
 use Rattle.meaning.specs.Direct.{look_direct}
-use Rattle.meaning.specs.Says.{found_says}
 use Rattle.codes.specs.Firsts.{Space}
-use Rattle.codes.proofs.Lookings.{Laid, laid_none, laid_one, firsts-stop, firsts-all}
+use Rattle.codes.proofs.Lookings.{Laid}
 use Rattle.codes.proofs.directly.firsts_direct.Given as goal
 
 abbrev pub invariant-loop-number : goal.invariant-loop-number

@@ -1,17 +1,10 @@
 -- The first `number` runs have been passed, length by length. Assumes nothing.
-use Prim.Native.Nat.{ℕ, ◌+◌, ◌-◌, ◌≤◌, ◌<◌}
-use mathlib.Core.Path.{◌≡◌, sym, ap, ap₂, ◌∙◌}
-use native.Mathlib.Nat.{sub-zero}
-use native.Mathlib.Omega.{arith}
+use Prim.Native.Nat.{◌-◌, ◌≤◌, ◌<◌}
+use mathlib.Core.Path.{◌≡◌}
 use lib.ListN.{length}
-use borrow.Author.Rules.{rules}
-use borrow.Author.Tests.{not-true, not-false}
 use Rattle.meaning.specs.Direct.{look_direct}
 use Rattle.meaning.specs.Limits.{most_bytes, most_numbers}
-use Rattle.meaning.specs.Says.{found_says}
 use Rattle.meaning.specs.Stages.{seek}
-use Rattle.stages.proofs.Seeks.{seek-none, seek-stops, seek-breaks, seek-here, seek-later}
-use Rattle.stages.proofs.Unrolls.{fits-so}
 use Rattle.codes.proofs.directly.seek_direct.Given as goal
 
 abbrev pub invariant-loop-number : goal.invariant-loop-number

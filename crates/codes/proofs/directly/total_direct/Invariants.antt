@@ -1,15 +1,11 @@
 -- The numbers at the first places have been added up, one by one. Assumes nothing.
 use Prim.Native.Nat.{◌+◌, ◌-◌, ◌*◌, ◌^◌, ◌≤◌, ◌<◌}
-use mathlib.Core.Path.{◌≡◌, sym, ap, ◌∙◌}
-use native.Mathlib.Omega.{arith}
+use mathlib.Core.Path.{◌≡◌}
 use lib.ListN.{length}
-use borrow.Author.Rules.{rules}
 use Rattle.meaning.specs.Answer.{given}
 use Rattle.meaning.specs.Direct.{look_direct}
 use Rattle.meaning.specs.Limits.{most_bytes, most_numbers}
-use Rattle.meaning.specs.Says.{found_says}
 use Rattle.codes.specs.Firsts.{total}
-use Rattle.codes.proofs.Totals.{total-none, total-refused, total-one}
 use Rattle.codes.proofs.directly.total_direct.Given as goal
 
 abbrev pub invariant-loop-number : goal.invariant-loop-number

@@ -1,6 +1,5 @@
 -- G8IU alone leaves bytes spare. Assumes nothing.
 use Rattle.codes.proofs.Numbered.{code-3, spare-other}
-use borrow.Author.Rules.{rules}
 use Rattle.codes.proofs.dispatch.spare_after.Goals as goal
 
 pub returns-then-code-eq3 : goal.returns-then-code-eq3

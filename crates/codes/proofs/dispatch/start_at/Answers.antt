@@ -4,7 +4,6 @@ use mathlib.Core.Path.{◌≡◌, refl, sym, ap}
 use mathlib.Core.Bool.{Bool, true, false, cond}
 use native.Mathlib.Omega.{arith}
 use borrow.Author.Tests.{lt-leb, le-leb}
-use borrow.Author.Rules.{rules}
 use Rattle.meaning.specs.Answer.{given, refused, need}
 use Rattle.meaning.specs.Direct.{parts_fit}
 use Rattle.meaning.specs.Groups.{group_count}

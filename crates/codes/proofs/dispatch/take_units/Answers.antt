@@ -1,7 +1,6 @@
 -- Each arm is its code's taking. Assumes nothing.
 use native.Mathlib.Omega.{arith}
 use Rattle.codes.proofs.Numbered.{code-1, code-2, code-3, code-4, code-5, code-6, code-7, code-8}
-use borrow.Author.Rules.{rules}
 use Rattle.codes.proofs.dispatch.take_units.Goals as goal
 
 pub returns-in-1 : goal.returns-in-1

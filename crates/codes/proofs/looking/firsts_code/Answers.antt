@@ -1,13 +1,10 @@
 -- The numbers at the first `passed` places stand in work. Assumes nothing.
-use borrow.Author.Rules.{rules}
-use Prim.Native.Nat.{ℕ, ◌-◌, ◌≤◌, ◌<◌}
+use Prim.Native.Nat.{ℕ}
 use mathlib.Core.Path.{◌≡◌, refl, sym, ap, ◌∙◌}
 use native.Mathlib.Omega.{arith}
 use Rattle.meaning.specs.Answer.{refused}
-use Rattle.meaning.specs.Codes.{code_of, look_code}
-use Rattle.codes.specs.Firsts.{Space}
-use Rattle.codes.proofs.Lookings.{Looking, looking-start, start-refuses, refuses, looking-on}
-use Rattle.codes.proofs.Lookings.{those, Laid, laid_none, laid-went, firsts-stop, firsts-all, firsts_same}
+use Rattle.codes.proofs.Lookings.{looking-start, start-refuses, refuses, looking-on}
+use Rattle.codes.proofs.Lookings.{those, laid_none, laid-went, firsts-stop, firsts-all, firsts_same}
 use Rattle.codes.proofs.Numbered.{way-units, look-eight}
 use Rattle.codes.proofs.Stretches.{goes_on, goes-refused}
 use Rattle.codes.proofs.looking.firsts_code.Goals as goal

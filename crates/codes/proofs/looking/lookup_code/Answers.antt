@@ -1,12 +1,10 @@
 -- `passed` numbers have been passed, none of them at the place. Assumes nothing.
 use borrow.Author.Rules.{rules}
-use Prim.Native.Nat.{ℕ, ◌-◌, ◌≤◌, ◌<◌}
-use mathlib.Core.Path.{◌≡◌, sym, ap, ◌∙◌}
+use Prim.Native.Nat.{ℕ}
+use mathlib.Core.Path.{sym, ap, ◌∙◌}
 use native.Mathlib.Omega.{arith}
-use lib.ListN.{length}
-use Rattle.meaning.specs.Answer.{Answer, given, refused}
-use Rattle.meaning.specs.Limits.{most_numbers, unit_places}
-use Rattle.codes.proofs.Lookings.{Looking, looking-start, start-refuses, refuses, passes, looking-on, found}
+use Rattle.meaning.specs.Answer.{Answer, refused}
+use Rattle.codes.proofs.Lookings.{looking-start, start-refuses, refuses, passes, looking-on, found}
 use Rattle.codes.proofs.Numbered.{way-units, look-eight}
 use Rattle.codes.proofs.Stretches.{goes_on, passed-long}
 use Rattle.codes.proofs.looking.lookup_code.Goals as goal

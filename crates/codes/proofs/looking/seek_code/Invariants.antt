@@ -1,18 +1,9 @@
 -- The first `passed` lengths have been passed. Assumes nothing.
-use borrow.Author.Rules.{rules}
-use Prim.Native.Nat.{ℕ, ◌-◌, ◌≤◌, ◌<◌}
-use mathlib.Core.Path.{◌≡◌, sym, ap, ◌∙◌}
-use native.Mathlib.Omega.{arith}
+use Prim.Native.Nat.{◌-◌, ◌≤◌, ◌<◌}
+use mathlib.Core.Path.{◌≡◌}
 use lib.ListN.{length}
-use Rattle.meaning.specs.Answer.{Answer, given, refused}
-use Rattle.meaning.specs.Codes.{code_of, look_code}
 use Rattle.meaning.specs.Limits.{most_numbers}
-use Rattle.meaning.specs.Stages.{seek}
-use Rattle.codes.proofs.Lookings.{looking-start, start-refuses, passes}
-use Rattle.codes.proofs.Seeks.{SeekingOn, on-start, on-refused, on-end, on-found, on-few, on-fault, on-within, on-next}
-use Rattle.stages.proofs.Seeks.{seek-none, seek-stops}
-use Rattle.codes.proofs.Numbered.{way-units, look-eight}
-use Rattle.codes.proofs.Stretches.{goes_on, passed-long}
+use Rattle.codes.proofs.Seeks.{SeekingOn}
 use Rattle.codes.proofs.looking.seek_code.Given as goal
 
 abbrev pub invariant-loop-passed : goal.invariant-loop-passed

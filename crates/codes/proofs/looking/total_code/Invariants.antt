@@ -1,17 +1,12 @@
 -- `passed` numbers have been passed and added up, none of them at the place. Assumes nothing.
-use borrow.Author.Rules.{rules}
-use Prim.Native.Nat.{ℕ, ◌+◌, ◌-◌, ◌*◌, ◌^◌, ◌≤◌, ◌<◌}
-use mathlib.Core.Path.{◌≡◌, sym, ap, ◌∙◌}
-use native.Mathlib.Omega.{arith}
+use Prim.Native.Nat.{◌-◌, ◌*◌, ◌^◌, ◌≤◌, ◌<◌}
+use mathlib.Core.Path.{◌≡◌}
 use lib.ListN.{length}
-use Rattle.meaning.specs.Answer.{Answer, given, refused}
+use Rattle.meaning.specs.Answer.{given}
 use Rattle.meaning.specs.Codes.{code_of, look_code}
 use Rattle.meaning.specs.Limits.{most_numbers, unit_places}
 use Rattle.codes.specs.Firsts.{total}
-use Rattle.codes.proofs.Lookings.{Looking, looking-start, start-refuses, refuses, passes, looking-on}
-use Rattle.codes.proofs.Numbered.{way-units, look-eight}
-use Rattle.codes.proofs.Stretches.{goes_on, passed-long}
-use Rattle.codes.proofs.Totals.{total-none, total-refused, total-went, total-found}
+use Rattle.codes.proofs.Lookings.{Looking}
 use Rattle.codes.proofs.looking.total_code.Given as goal
 
 abbrev pub invariant-loop-taken : goal.invariant-loop-taken

@@ -1,9 +1,7 @@
 -- i numbers have been read and stand in work. Assumes nothing.
-use borrow.Author.Rules.{rules}
-use Prim.Native.Nat.{◌-◌}
 use mathlib.Core.Path.{sym, ◌∙◌}
 use native.Mathlib.Omega.{arith}
-use Rattle.codes.proofs.Readings.{Reading, reading-start, got-no-start, got-unit-refused, reading-few, reading-on, got-unjoined, got-all, got-left-over}
+use Rattle.codes.proofs.Readings.{reading-start, got-no-start, got-unit-refused, reading-few, reading-on, got-unjoined, got-all, got-left-over}
 use Rattle.codes.proofs.Stretches.{goes_on, passed-long}
 use Rattle.codes.proofs.reading.read_code.Goals as goal
 

@@ -1,6 +1,5 @@
 -- What was taken, and then the unit. Assumes nothing.
 use native.Mathlib.Omega.{arith}
-use borrow.Author.Rules.{rules}
 use Rattle.codes.proofs.stretch.stretch.Goals as goal
 
 pub or_unit-requires : goal.or_unit-requires

@@ -1,8 +1,6 @@
 -- `plan_end` falls in the stages that may come; a plan's size is told stage by stage. Assumes nothing.
-use Prim.Native.Nat.{ℕ, ◌<◌}
 use mathlib.Core.Path.{sym, ap, ◌∙◌}
 use native.Mathlib.Omega.{arith}
-use borrow.Author.Rules.{rules}
 use Rattle.meaning.specs.Plan.{plan_size}
 use Rattle.judge.proofs.PlanLaws.{at-bad, at_code, at-reference, at-differences, at-runs}
 use Rattle.judge.proofs.StageLaws.{two_ends}

@@ -1,8 +1,6 @@
 -- `good_end` falls in the stages that may come, and tells stage by stage where a good plan ends. Assumes nothing.
-use Prim.Native.Nat.{ℕ, ◌<◌}
 use mathlib.Core.Path.{sym, ◌∙◌}
 use native.Mathlib.Omega.{arith}
-use borrow.Author.Rules.{rules}
 use Rattle.judge.proofs.PlanLaws.{at-bad, at_code, at-reference, at-differences, at-runs}
 use Rattle.judge.proofs.TreeLaws.{end-bad, end-code, end-reference, end-differences, end-first, end-second}
 use Rattle.judge.proofs.tree.+good_end.Goals as goal

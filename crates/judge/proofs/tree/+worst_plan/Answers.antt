@@ -1,8 +1,7 @@
 -- `worst_plan` falls in the stages that may come; no sum is above what three stages make of the largest code. Assumes nothing.
-use Prim.Native.Nat.{ℕ, ◌<◌}
+use Prim.Native.Nat.{ℕ}
 use mathlib.Core.Path.{sym, ap, ◌∙◌}
 use native.Mathlib.Omega.{arith}
-use borrow.Author.Rules.{rules}
 use Rattle.meaning.specs.Plan.{Plan, worst_plan}
 use Rattle.judge.proofs.PlanLaws.{at-bad, at_code, at-reference, at-differences, at-runs, second}
 use Rattle.judge.proofs.TreeLaws.{worst-most}
@@ -32,18 +31,18 @@ pub overflow_add-result-in-Runs : goal.overflow_add-result-in-Runs
 overflow_add-result-in-Runs t c =
     let is = at-runs _ _ _ _ _ (sym c.stage_at.ensures ∙ c.in-Runs.is) in
     omega (
-        arith,
-        worst-most _ _ _ _ _ c.worst_plan-values.ensures (omega arith) (omega arith),
-        worst-most _ _ _ _ _ c.worst_plan-lengths.ensures (omega arith) (omega arith),
+      arith,
+      worst-most _ _ _ _ _ c.worst_plan-values.ensures (omega arith) (omega arith),
+      worst-most _ _ _ _ _ c.worst_plan-lengths.ensures (omega arith) (omega arith),
     )
 
 pub overflow_add-result-in-Runs-2 : goal.overflow_add-result-in-Runs-2
 overflow_add-result-in-Runs-2 t c =
     let is = at-runs _ _ _ _ _ (sym c.stage_at.ensures ∙ c.in-Runs.is) in
     omega (
-        arith,
-        worst-most _ _ _ _ _ c.worst_plan-values.ensures (omega arith) (omega arith),
-        worst-most _ _ _ _ _ c.worst_plan-lengths.ensures (omega arith) (omega arith),
+      arith,
+      worst-most _ _ _ _ _ c.worst_plan-values.ensures (omega arith) (omega arith),
+      worst-most _ _ _ _ _ c.worst_plan-lengths.ensures (omega arith) (omega arith),
     )
 
 pub returns-in-Bad : goal.returns-in-Bad

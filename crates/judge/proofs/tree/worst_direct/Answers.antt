@@ -1,6 +1,5 @@
 -- `worst_direct` is the definition's sum. Assumes nothing.
 use mathlib.Core.Path.{refl}
-use borrow.Author.Rules.{rules}
 use Rattle.meaning.specs.Direct.{worst_direct}
 use Rattle.judge.proofs.tree.worst_direct.Goals as goal
 

@@ -1,6 +1,5 @@
 -- `worst_groups` is the definition's sum. Assumes nothing.
 use mathlib.Core.Path.{refl}
-use borrow.Author.Rules.{rules}
 use Rattle.meaning.specs.Groups.{group_count}
 use Rattle.judge.proofs.tree.worst_groups.Goals as goal
 

@@ -1,10 +1,8 @@
 -- `body_start` has passed the bodies below k. Assumes nothing.
-use Prim.Native.Nat.{◌-◌}
 use native.Mathlib.Omega.{arith}
-use borrow.Author.Rules.{rules}
 use Rattle.meaning.specs.Sheet.{edition_of}
 use Rattle.table.proofs.Slots.{slot_small}
-use Rattle.table.proofs.EntryLaws.{BodySo, body-first, body-turn, body_end}
+use Rattle.table.proofs.EntryLaws.{body-first, body-turn, body_end}
 use Rattle.table.proofs.entries.body_start.Goals as goal
 
 pub slot_of-table-requires : goal.slot_of-table-requires

@@ -1,7 +1,6 @@
 -- `count_at` reads an entry's count. Assumes nothing.
 use mathlib.Core.Path.{◌∙◌}
 use native.Mathlib.Omega.{arith}
-use borrow.Author.Rules.{rules}
 use Rattle.table.proofs.Slots.{slot-within}
 use Rattle.table.proofs.EntryLaws.{count-here}
 use Rattle.table.proofs.entries.count_at.Goals as goal

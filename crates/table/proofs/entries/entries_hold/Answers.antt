@@ -1,10 +1,8 @@
 -- `entries_hold` has asked the entries below k, and asks the rest. Assumes nothing.
 use mathlib.Core.Path.{ap}
 use mathlib.Core.Bool.{not}
-use Prim.Native.Nat.{◌-◌}
 use mathlib.Core.Path.{refl}
-use borrow.Author.Rules.{rules}
-use Rattle.table.proofs.EntryLaws.{EntriesSo, entries-turn, entries-fail, entries-end}
+use Rattle.table.proofs.EntryLaws.{entries-turn, entries-fail, entries-end}
 use Rattle.table.proofs.entries.entries_hold.Goals as goal
 
 pub loop-k-init : goal.loop-k-init

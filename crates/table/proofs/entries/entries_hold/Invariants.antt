@@ -1,8 +1,6 @@
 -- `entries_hold` has asked the entries below k, and asks the rest. Assumes nothing.
 use Prim.Native.Nat.{◌-◌}
-use mathlib.Core.Path.{refl}
-use borrow.Author.Rules.{rules}
-use Rattle.table.proofs.EntryLaws.{EntriesSo, entries-turn, entries-fail, entries-end}
+use Rattle.table.proofs.EntryLaws.{EntriesSo}
 use Rattle.table.proofs.entries.entries_hold.Given as goal
 
 abbrev pub invariant-loop-k : goal.invariant-loop-k

@@ -1,5 +1,4 @@
 -- `entry_holds` asks the kind, then the count. Assumes nothing.
-use borrow.Author.Rules.{rules}
 use Rattle.meaning.specs.Sheet.{column_at}
 use Rattle.table.proofs.EntryLaws.{holds_not, holds-counted}
 use Rattle.table.proofs.entries.entry_holds.Goals as goal

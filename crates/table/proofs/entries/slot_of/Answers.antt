@@ -1,7 +1,6 @@
 -- `slot_of` asks by the sheet's own edition. Assumes nothing.
 use Prim.Native.Nat.{ℕ, ◌<◌, ◌^◌}
 use mathlib.Core.Path.{ap, sym, ◌∙◌, subst}
-use borrow.Author.Rules.{rules}
 use Rattle.table.specs.Offsets.{entry_offset}
 use Rattle.table.proofs.entries.slot_of.Goals as goal
 

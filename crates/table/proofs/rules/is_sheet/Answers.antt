@@ -1,7 +1,6 @@
 -- `is_sheet` asks in the definition's order. Assumes nothing.
 use mathlib.Core.Path.{ap}
 use mathlib.Core.Bool.{not}
-use borrow.Author.Rules.{rules}
 use Rattle.table.proofs.RuleLaws.{too_short, too_long, other-edition, by_count}
 use Rattle.table.proofs.rules.is_sheet.Goals as goal
 

@@ -1,8 +1,6 @@
 -- `plans_pass` has passed the plans below k. Assumes nothing.
-use Prim.Native.Nat.{◌-◌}
 use mathlib.Core.Path.{refl}
-use borrow.Author.Rules.{rules}
-use Rattle.table.proofs.RuleLaws.{PlansSo, plans-turn, plans-refuse, plans-end}
+use Rattle.table.proofs.RuleLaws.{plans-turn, plans-refuse, plans-end}
 use Rattle.table.proofs.rules.plans_pass.Goals as goal
 
 pub loop-k-init : goal.loop-k-init

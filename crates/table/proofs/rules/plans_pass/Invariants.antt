@@ -1,8 +1,6 @@
 -- `plans_pass` has passed the plans below k. Assumes nothing.
 use Prim.Native.Nat.{◌-◌}
-use mathlib.Core.Path.{refl}
-use borrow.Author.Rules.{rules}
-use Rattle.table.proofs.RuleLaws.{PlansSo, plans-turn, plans-refuse, plans-end}
+use Rattle.table.proofs.RuleLaws.{PlansSo}
 use Rattle.table.proofs.rules.plans_pass.Given as goal
 
 abbrev pub invariant-loop-k : goal.invariant-loop-k
