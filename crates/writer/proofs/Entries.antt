@@ -90,7 +90,8 @@ module _ (kind : ℕ) (plans : List ℕ) (from : ℕ) (fits : from + plan_bytes 
   pub default-used : t ≡ true → (r : List ℕ) → r ≡ default_plan kind → r ≡ plan_used kind (part plans from plan_bytes)
   default-used h r e = e ∙ used-blank kind (part plans from plan_bytes) (part_length plans from plan_bytes fits) (sym blank-is ∙ h)
 
-  pub copy-used : t ≡ false → (o r : List ℕ) → length o ≡ plan_bytes → r ≡ sets o 0 (part plans from plan_bytes) → r ≡ plan_used kind (part plans from plan_bytes)
+  pub copy-used : t ≡ false → (o r : List ℕ) → length o ≡ plan_bytes → r ≡ sets o 0 (part plans from plan_bytes)
+      → r ≡ plan_used kind (part plans from plan_bytes)
   copy-used h o r l e =
       e
       ∙ copy-whole o (part plans from plan_bytes) (l ∙ sym (part_length plans from plan_bytes fits))

@@ -82,7 +82,8 @@ bodies-grow ls k =
 
 module _ {edition : ℕ} {ls : List Listed} {n : ℕ} {head o : List ℕ} {at k : ℕ} (so : Laying edition ls n head o at k) where
   -- column k has been put
-  module _ (h : k < n) {c : Listed} (ec : get_or ls k blank_listed ≡ c) {slot : ℕ} {o' : List ℕ} {end : Offset} (put : ColumnPut edition c slot at o o' end) where
+  module _ (h : k < n) {c : Listed} (ec : get_or ls k blank_listed ≡ c) {slot : ℕ} {o' : List ℕ} {end : Offset}
+      (put : ColumnPut edition c slot at o o' end) where
     bodies-next : bodies_below ls (k + 1) ≡ bodies_below ls k ++ body_of c
     bodies-next = joined-next body_of ls blank_listed k (omega arith) ∙ ap (λ (l : Listed). bodies_below ls k ++ body_of l) ec
 

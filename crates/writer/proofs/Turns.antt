@@ -54,7 +54,8 @@ module _ {kinds plans : List ℕ} {k : ℕ} (so : JudgedBelow kinds plans k) whe
               tt (judged-here r is counts numbers ∙ ap judged_says e);
         }
 
-    pub judged-refuse : {r : Judged} → judged_says r ≡ judge_plan (get_or kinds k 0) plan → {z : ℕ} → r ≡ judged.Refused z → JudgedAs kinds plans (judged.Refused z)
+    pub judged-refuse : {r : Judged} → judged_says r ≡ judge_plan (get_or kinds k 0) plan
+        → {z : ℕ} → r ≡ judged.Refused z → JudgedAs kinds plans (judged.Refused z)
     judged-refuse {r} is {z} e counts numbers =
         ap verdict_told
         (sym (below-refuse list_judged (columns_by kinds plans counts numbers) blank_listed k (so.below counts numbers) (in-columns counts numbers)

@@ -1,11 +1,10 @@
 -- `put_plan` has put the bytes before j. Assumes nothing.
-use Prim.Native.Nat.{◌-◌}
 use mathlib.Core.Path.{◌≡◌}
 use native.Mathlib.Omega.{arith}
 use borrow.Author.Rules.{rules}
 use lib.ListN.{length}
 use Rattle.meaning.specs.Limits.{plan_bytes}
-use Rattle.orders.proofs.Taken.{Putting, putting-start, putting-long, putting-turn, putting-end}
+use Rattle.orders.proofs.Taken.{putting-start, putting-long, putting-turn, putting-end}
 use Rattle.orders.proofs.apart.put_plan.Goals as goal
 
 pub loop-j-init : goal.loop-j-init

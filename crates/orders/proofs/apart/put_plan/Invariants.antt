@@ -1,11 +1,7 @@
 -- `put_plan` has put the bytes before j. Assumes nothing.
 use Prim.Native.Nat.{◌-◌}
-use mathlib.Core.Path.{◌≡◌}
-use native.Mathlib.Omega.{arith}
-use borrow.Author.Rules.{rules}
-use lib.ListN.{length}
 use Rattle.meaning.specs.Limits.{plan_bytes}
-use Rattle.orders.proofs.Taken.{Putting, putting-start, putting-long, putting-turn, putting-end}
+use Rattle.orders.proofs.Taken.{Putting}
 use Rattle.orders.proofs.apart.put_plan.Given as goal
 
 abbrev pub invariant-loop-j : goal.invariant-loop-j

@@ -1,12 +1,11 @@
 -- `write_gathered` has taken apart the orders before i. Assumes nothing.
-use Prim.Native.Nat.{◌-◌}
-use mathlib.Core.Path.{◌≡◌, refl, sym, ◌∙◌}
+use mathlib.Core.Path.{◌≡◌, refl, sym}
 use native.Mathlib.Omega.{arith}
 use borrow.Author.Rules.{rules}
-use lib.ListN.{length, length-map}
+use lib.ListN.{length}
 use lib.Seq.{length-take-le}
 use Rattle.meaning.specs.Limits.{most_columns}
-use Rattle.orders.proofs.Taken.{Apart, apart-start, apart-turn, refuse-many, written}
+use Rattle.orders.proofs.Taken.{apart-start, apart-turn, refuse-many, written}
 use Rattle.orders.proofs.apart.write_gathered.Goals as goal
 
 pub returns-then-n-gt-MOST_COLUMNS : goal.returns-then-n-gt-MOST_COLUMNS
@@ -18,7 +17,7 @@ pub loop-i-init : goal.loop-i-init
 loop-i-init c =
     let g = c.args.g in
     -- what the type says of g: its list has 16 elements
-    let there : length g.list ≡ most_columns = sym (length-map g.list _) ∙ c.good.1.0.1.1.0.1.0.1 in
+    let there : length g.list ≡ most_columns = search rules in
     apart-start g.list g.n _ _ _ c.if-n-gt-MOST_COLUMNS.false there refl refl refl
 
 pub loop-i-preserved : goal.loop-i-preserved

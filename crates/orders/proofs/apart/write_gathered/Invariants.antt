@@ -1,12 +1,6 @@
 -- `write_gathered` has taken apart the orders before i. Assumes nothing.
 use Prim.Native.Nat.{◌-◌}
-use mathlib.Core.Path.{◌≡◌, refl, sym, ◌∙◌}
-use native.Mathlib.Omega.{arith}
-use borrow.Author.Rules.{rules}
-use lib.ListN.{length, length-map}
-use lib.Seq.{length-take-le}
-use Rattle.meaning.specs.Limits.{most_columns}
-use Rattle.orders.proofs.Taken.{Apart, apart-start, apart-turn, refuse-many, written}
+use Rattle.orders.proofs.Taken.{Apart}
 use Rattle.orders.proofs.apart.write_gathered.Given as goal
 
 abbrev pub invariant-loop-i : goal.invariant-loop-i
