@@ -98,19 +98,22 @@ module _ (es : List ℕ) where
 -- ---- the operations
 pub judge-refusals : (kind : ℕ) (plan : List ℕ) → RefusesBy (3 ∷ 4 ∷ 11 ∷ []) (judge kind plan)
 unfolding judge among
-judge-refusals kind plan = by-need _ (leb kind rising) bad_orders _ refl (plan-by _ refl refl kind plan)
+judge-refusals kind plan = by-need (3 ∷ 4 ∷ 11 ∷ []) (leb kind rising) bad_orders _ refl (plan-by (3 ∷ 4 ∷ 11 ∷ []) refl refl kind plan)
+
+abbrev ranking : List ℕ
+ranking = 1 ∷ 6 ∷ []
 
 pub rank-refusals : (bytes : List ℕ) (bit : ℕ) → RefusesBy (1 ∷ 6 ∷ []) (rank bytes bit)
 unfolding rank among
-rank-refusals bytes bit = by-need _ (leb (length bytes) most_bytes) no_sheet _ refl (by-need _ (leb bit (8 * length bytes)) no_place _ refl tt)
+rank-refusals bytes bit = by-need ranking (leb (length bytes) most_bytes) no_sheet _ refl (by-need ranking (leb bit (8 * length bytes)) no_place _ refl tt)
 
 pub select-refusals : (bytes : List ℕ) (k : ℕ) → RefusesBy (1 ∷ 6 ∷ []) (select bytes k)
 unfolding select among
-select-refusals bytes k = by-need _ (leb (length bytes) most_bytes) no_sheet _ refl (one-by _ no_place refl k (low_bits bytes))
+select-refusals bytes k = by-need (1 ∷ 6 ∷ []) (leb (length bytes) most_bytes) no_sheet _ refl (one-by (1 ∷ 6 ∷ []) no_place refl k (low_bits bytes))
 
 pub worst-refusals : (plan : List ℕ) (n : ℕ) → RefusesBy (3 ∷ 11 ∷ []) (worst_size plan n)
 unfolding worst_size among
-worst-refusals plan n = by-need _ (well_formed plan) bad_plan _ refl (by-need _ (leb n most_numbers) bad_orders _ refl tt)
+worst-refusals plan n = by-need (3 ∷ 11 ∷ []) (well_formed plan) bad_plan _ refl (by-need (3 ∷ 11 ∷ []) (leb n most_numbers) bad_orders _ refl tt)
 
 abbrev writing : List ℕ
 writing = 3 ∷ 4 ∷ 7 ∷ 8 ∷ 10 ∷ 11 ∷ []
@@ -135,39 +138,48 @@ apart-refusals edition kinds plans counts numbers work room =
 
 pub check-refusals : (sheet : List ℕ) (work : ℕ) → BlamesBy (1 ∷ 2 ∷ 3 ∷ 4 ∷ 8 ∷ 9 ∷ 13 ∷ []) (check sheet work)
 unfolding among
-check-refusals sheet work = check-by _ refl refl refl refl sheet refl refl refl work
+check-refusals sheet work = check-by (1 ∷ 2 ∷ 3 ∷ 4 ∷ 8 ∷ 9 ∷ 13 ∷ []) refl refl refl refl sheet refl refl refl work
+
+abbrev reading : List ℕ
+reading = 1 ∷ 2 ∷ 3 ∷ 4 ∷ 5 ∷ 7 ∷ 8 ∷ 9 ∷ 13 ∷ []
 
 pub read-refusals : (sheet : List ℕ) (k work room : ℕ) → RefusesBy (1 ∷ 2 ∷ 3 ∷ 4 ∷ 5 ∷ 7 ∷ 8 ∷ 9 ∷ 13 ∷ []) (read_sheet sheet k work room)
 unfolding read_sheet among
 read-refusals sheet k work room =
-    by-bind _ (column sheet k) _ (column-by _ refl refl refl refl sheet refl k) (λ c.
-    by-need _ (leb (7 * c.count) work) short_work _ refl
-    (by-need _ (leb c.count room) no_room _ refl (by-fault _ (read_column c) refl refl (column-faulty laws c))))
+    by-bind reading (column sheet k) _ (column-by reading refl refl refl refl sheet refl k) (λ c.
+    by-need reading (leb (7 * c.count) work) short_work _ refl
+    (by-need reading (leb c.count room) no_room _ refl (by-fault reading (read_column c) refl refl (column-faulty laws c))))
+
+abbrev looking : List ℕ
+looking = 1 ∷ 2 ∷ 3 ∷ 4 ∷ 5 ∷ 6 ∷ 9 ∷ 13 ∷ []
 
 pub lookup-refusals : (sheet : List ℕ) (k place : ℕ) → RefusesBy (1 ∷ 2 ∷ 3 ∷ 4 ∷ 5 ∷ 6 ∷ 9 ∷ 13 ∷ []) (look_sheet sheet k place)
 unfolding look_sheet among
 lookup-refusals sheet k place =
-    by-bind _ (column sheet k) _ (column-by _ refl refl refl refl sheet refl k) (λ c.
+    by-bind looking (column sheet k) _ (column-by looking refl refl refl refl sheet refl k) (λ c.
     let p = plan_of c.plan in
-    by-need _ (ltb place c.count) no_place _ refl (by-fault _ (look p c.body c.count place) refl refl (look-faulty laws p c.body c.count place)))
+    by-need looking (ltb place c.count) no_place _ refl (by-fault looking (look p c.body c.count place) refl refl (look-faulty laws p c.body c.count place)))
 
 pub fetch-refusals : (sheet : List ℕ) (k : ℕ) → RefusesBy (1 ∷ 2 ∷ 3 ∷ 4 ∷ 5 ∷ []) (fetch sheet k)
 unfolding fetch among
-fetch-refusals sheet k = by-bind _ (column sheet k) _ (column-by _ refl refl refl refl sheet refl k) (λ c. tt)
+fetch-refusals sheet k = by-bind (1 ∷ 2 ∷ 3 ∷ 4 ∷ 5 ∷ []) (column sheet k) _ (column-by (1 ∷ 2 ∷ 3 ∷ 4 ∷ 5 ∷ []) refl refl refl refl sheet refl k) (λ c. tt)
 
 pub open-refusals : (sheet : List ℕ) (k : ℕ) → RefusesBy (1 ∷ 2 ∷ 3 ∷ 4 ∷ 5 ∷ []) (open_reader sheet k)
 unfolding open_reader among
-open-refusals sheet k = by-bind _ (column sheet k) _ (column-by _ refl refl refl refl sheet refl k) (λ c. tt)
+open-refusals sheet k = by-bind (1 ∷ 2 ∷ 3 ∷ 4 ∷ 5 ∷ []) (column sheet k) _ (column-by (1 ∷ 2 ∷ 3 ∷ 4 ∷ 5 ∷ []) refl refl refl refl sheet refl k) (λ c. tt)
 
 tallied-by : (es : List ℕ) (v : Verdict) (endings : List ℕ) → BlamesBy es v → BlamesBy es (tallied v endings).0
 tallied-by es passed endings h = tt
 tallied-by es (blamed e k) endings h = h
 
+abbrev counting : List ℕ
+counting = 1 ∷ 2 ∷ 3 ∷ 4 ∷ 8 ∷ 9 ∷ 12 ∷ 13 ∷ []
+
 pub board-refusals : (sheet : List ℕ) (work : ℕ) → BlamesBy (1 ∷ 2 ∷ 3 ∷ 4 ∷ 8 ∷ 9 ∷ 12 ∷ 13 ∷ []) (count_board sheet work).0
 unfolding count_board board_verdict among
 board-refusals sheet work =
-    tallied-by _ (board_verdict sheet work) (numbers_at sheet 1)
-    (by-then _ (check sheet work) _ (check-by _ refl refl refl refl sheet refl refl refl work) (by-ask _ (board_holds sheet) bad_board refl))
+    tallied-by counting (board_verdict sheet work) (numbers_at sheet 1)
+    (by-then counting (check sheet work) _ (check-by counting refl refl refl refl sheet refl refl refl work) (by-ask counting (board_holds sheet) bad_board refl))
 
 -- ---- number 0 says accepted
 among-some : (e : ℕ) (es : List ℕ) → all (leb 1) es ≡ true → among e es ≡ true → e ≡ 0 → ⊥
