@@ -1,11 +1,9 @@
 -- Writing by a plan: what the callees ensure is handed to the law of its stage. Assumes nothing.
-use Prim.Native.Nat.{ℕ, ◌+◌, ◌*◌, ◌<◌}
 use mathlib.Core.Path.{sym, ◌∙◌}
 use native.Mathlib.Omega.{arith}
-use borrow.Author.Rules.{rules}
 use Rattle.meaning.specs.Plan.{Plan, plan_at}
 use Rattle.judge.proofs.PlanLaws.{at-bad, at_code, at-reference, at-differences, at-runs, second}
-use Rattle.plan_write.proofs.Steps.{fit-list, fit-code, fit-more, fit-inner, fit-runs, fit-three, fit-part, Ended, runs_fit, values-end}
+use Rattle.plan_write.proofs.Steps.{fit-list, fit-code, fit-more, fit-inner, fit-runs, fit-three, fit-part, runs_fit, values-end}
 use Rattle.plan_write.proofs.Steps.{written-bad, written-code, written-stage, written-differences, written-reference, written-runs}
 use Rattle.plan_write.proofs.+write_plan_write_runs.Goals as goal
 

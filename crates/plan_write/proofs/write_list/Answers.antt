@@ -1,7 +1,6 @@
 -- `write_list`: the whole plan, from the first place on. Assumes nothing.
 use native.Mathlib.Nat.{zero-add}
 use native.Mathlib.Omega.{arith}
-use borrow.Author.Rules.{rules}
 use Rattle.meaning.specs.Plan.{plan_of}
 use Rattle.stages.proofs.Rooms.{top-room}
 use Rattle.plan_write.proofs.write_list.Goals as goal

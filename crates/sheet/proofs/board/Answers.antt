@@ -1,10 +1,6 @@
 -- `board`: the check, the jobs' rules, then the endings. Assumes nothing.
-use mathlib.Core.Bool.{not}
-use mathlib.Core.Path.{◌≡◌, sym, ap, ◌∙◌}
+use mathlib.Core.Path.{sym, ap, ◌∙◌}
 use lib.ListN.{length}
-use borrow.Author.Rules.{rules}
-use borrow.Author.Tests.{not-true, not-false}
-use Rattle.meaning.specs.Answer.{passed}
 use Rattle.meaning.specs.Operations.{check}
 use Rattle.meaning.specs.Says.{checked_says}
 use Rattle.sheet.specs.Board.{endings_told}

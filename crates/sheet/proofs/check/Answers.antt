@@ -1,11 +1,8 @@
 -- `check` asks in the document's order: the table, the work, the bodies in turn. Assumes nothing.
-use mathlib.Core.Path.{◌≡◌, sym, ap, ◌∙◌}
+use mathlib.Core.Path.{sym, ap, ◌∙◌}
 use native.Mathlib.Omega.{arith}
 use lib.ListN.{length}
-use borrow.Author.Rules.{rules}
-use Rattle.meaning.specs.Answer.{passed}
 use Rattle.meaning.specs.Says.{checked_says}
-use Rattle.meaning.specs.Sheet.{sound}
 use Rattle.sheet.proofs.Checks.{most-small, check-unsound, check-short, check-bodies}
 use Rattle.sheet.proofs.check.Goals as goal
 

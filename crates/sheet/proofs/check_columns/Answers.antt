@@ -1,9 +1,7 @@
 -- `check_columns` has read the columns below k. Assumes nothing.
-use Prim.Native.Nat.{◌-◌}
 use mathlib.Core.Path.{refl}
-use borrow.Author.Rules.{rules}
 use Rattle.table.proofs.Sounds.{sound-sheet}
-use Rattle.sheet.proofs.Checks.{Checking, bodies-here, bodies-readable, bodies-turn, bodies-refuse, bodies-end}
+use Rattle.sheet.proofs.Checks.{bodies-here, bodies-readable, bodies-turn, bodies-refuse, bodies-end}
 use Rattle.sheet.proofs.check_columns.Goals as goal
 
 pub column_count-columns-requires : goal.column_count-columns-requires

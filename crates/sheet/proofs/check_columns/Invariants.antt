@@ -1,9 +1,6 @@
 -- `check_columns` has read the columns below k. Assumes nothing.
 use Prim.Native.Nat.{◌-◌}
-use mathlib.Core.Path.{refl}
-use borrow.Author.Rules.{rules}
-use Rattle.table.proofs.Sounds.{sound-sheet}
-use Rattle.sheet.proofs.Checks.{Checking, bodies-here, bodies-readable, bodies-turn, bodies-refuse, bodies-end}
+use Rattle.sheet.proofs.Checks.{Checking}
 use Rattle.sheet.proofs.check_columns.Given as goal
 
 abbrev pub invariant-loop-k : goal.invariant-loop-k

@@ -1,9 +1,7 @@
 -- `lookup` hands the plan's and the body's parts of the column on. Assumes nothing.
 use mathlib.Core.Path.{sym, ◌∙◌}
 use native.Mathlib.Omega.{arith}
-use borrow.Author.Rules.{rules}
 use Rattle.meaning.specs.Stages.{look}
-use Rattle.table.specs.Entries.{Opened}
 use Rattle.table.proofs.ColumnLaws.{opened-by, refused-by}
 use Rattle.sheet.proofs.Entered.{of-column, body-short, count-few, sheet-short, opened-here, opened-column}
 use Rattle.sheet.proofs.LookSheets.{look_none, look-past, look-there}

@@ -1,7 +1,5 @@
 -- `read` reads into work, and copies what is whole; every refusal leaves the output. Assumes only the laws of the codes.
 use native.Mathlib.Omega.{arith}
-use borrow.Author.Rules.{rules}
-use Rattle.table.specs.Entries.{Opened}
 use Rattle.table.proofs.ColumnLaws.{opened-by, refused-by}
 use Rattle.sheet.proofs.Entered.{count-few, readable, opened-here}
 use Rattle.sheet.proofs.ReadSheets.{says_none, says-short, says-full, says-fault, copy-room, says-copied}

@@ -1,11 +1,10 @@
 -- The first numbers by a plan: what the callees ensure is handed to the law of its stage. Assumes nothing.
-use Prim.Native.Nat.{ℕ, ◌+◌, ◌-◌, ◌*◌, ◌<◌}
+use Prim.Native.Nat.{◌-◌}
 use mathlib.Core.Path.{refl, sym, ◌∙◌}
 use native.Mathlib.Omega.{arith}
 use lib.ListN.{length}
-use borrow.Author.Rules.{rules}
 use Rattle.judge.proofs.PlanLaws.{at-bad, at_code, at-reference, at-differences, at-runs}
-use Rattle.stages.proofs.Headers.{Headed, headed, headless}
+use Rattle.stages.proofs.Headers.{headed, headless}
 use Rattle.stages.proofs.Parts.{part-short}
 use Rattle.stages.proofs.Rooms.{fits-list, fits-inner, fits-runs, fits-values, fits-lengths, fits-spread}
 use Rattle.plan_look.proofs.Plans.{code-space, bad-firsts, code-firsts, same-firsts, reference-none, reference-firsts}

@@ -2,7 +2,6 @@
 use mathlib.Core.Path.{sym, ◌∙◌}
 use borrow.Author.Tests.{lt-ltb, le-ltb}
 use Rattle.plan_look.specs.Turns.{next_refusal}
-use borrow.Author.Rules.{rules}
 use Rattle.plan_look.proofs.firsts.next_refusal.Goals as goal
 
 pub returns-then-run_fits : goal.returns-then-run_fits

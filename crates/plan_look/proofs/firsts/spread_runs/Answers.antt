@@ -1,6 +1,5 @@
 -- `spread_runs`: what is laid, and why no more is. Assumes nothing.
 use Rattle.plan_look.proofs.Spreads.{runs-turned}
-use borrow.Author.Rules.{rules}
 use Rattle.plan_look.proofs.firsts.spread_runs.Goals as goal
 
 pub returns : goal.returns

@@ -1,13 +1,12 @@
 -- One number by a plan: what the callees ensure is handed to the law of its stage. Assumes nothing.
-use Prim.Native.Nat.{ℕ, ◌+◌, ◌-◌, ◌*◌, ◌<◌}
+use Prim.Native.Nat.{◌-◌}
 use mathlib.Core.Path.{sym, ◌∙◌}
 use native.Mathlib.Omega.{arith}
 use lib.ListN.{length}
-use borrow.Author.Rules.{rules}
 use Rattle.meaning.specs.Says.{found_says}
 use Rattle.judge.proofs.PlanLaws.{at-bad, at_code, at-reference, at-differences, at-runs}
 use Rattle.codes.specs.Started.{total_says, run_says}
-use Rattle.stages.proofs.Headers.{Headed, headed, headless}
+use Rattle.stages.proofs.Headers.{headed, headless}
 use Rattle.stages.proofs.Parts.{part-short}
 use Rattle.plan_look.proofs.Lookups.{says_so, looked-part, look-bad, look-code, look-as, look-short}
 use Rattle.plan_look.proofs.Lookups.{reference-refused, reference-sum, differences-refused, differences-sum}

@@ -1,13 +1,12 @@
 -- What the numbers through a place are refused by, before any sum: what the callees ensure is handed to the law of its stage. Assumes nothing.
-use Prim.Native.Nat.{ℕ, ◌+◌, ◌-◌, ◌*◌, ◌<◌}
+use Prim.Native.Nat.{◌-◌}
 use mathlib.Core.Path.{sym, ap, ◌∙◌}
 use native.Mathlib.Omega.{arith}
 use lib.ListN.{length}
-use borrow.Author.Rules.{rules}
 use Rattle.meaning.specs.Answer.{number}
 use Rattle.judge.proofs.PlanLaws.{at-bad, at_code, at-reference, at-differences, at-runs}
 use Rattle.codes.specs.Started.{run_says}
-use Rattle.stages.proofs.Headers.{Headed, headed, headless}
+use Rattle.stages.proofs.Headers.{headed, headless}
 use Rattle.stages.proofs.Parts.{part-short}
 use Rattle.plan_look.proofs.Lookups.{says_so, looked-part, run-looked}
 use Rattle.plan_look.proofs.Takings.{taking-bad, taking-code, taking-differences, taking-short, taking-reference, taking-as}

@@ -2,7 +2,6 @@
 use mathlib.Core.Path.{sym, ◌∙◌}
 use Rattle.judge.proofs.PlanLaws.{at_code}
 use Rattle.plan_look.proofs.Lookups.{code-run}
-use borrow.Author.Rules.{rules}
 use Rattle.plan_look.proofs.lookup.find_run.Goals as goal
 
 pub returns : goal.returns

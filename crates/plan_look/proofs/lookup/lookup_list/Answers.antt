@@ -1,5 +1,4 @@
 -- `lookup_list`: the whole plan. Assumes nothing.
-use borrow.Author.Rules.{rules}
 use Rattle.meaning.specs.Plan.{plan_of}
 use Rattle.plan_look.proofs.lookup.lookup_list.Goals as goal
 

@@ -3,7 +3,6 @@ use mathlib.Core.Path.{sym}
 use native.Mathlib.Omega.{arith}
 use Rattle.stages.proofs.Looks.{within-given}
 use Rattle.stages.proofs.Through.{within-over}
-use borrow.Author.Rules.{rules}
 use Rattle.plan_look.proofs.lookup.number_of.Goals as goal
 
 pub returns-then-sum-le4294967295 : goal.returns-then-sum-le4294967295

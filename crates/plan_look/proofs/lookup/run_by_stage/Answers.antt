@@ -2,7 +2,6 @@
 use mathlib.Core.Path.{refl, ◌∙◌}
 use native.Mathlib.Omega.{arith}
 use Rattle.plan_look.proofs.Lookups.{look-fits, run-sought}
-use borrow.Author.Rules.{rules}
 use Rattle.plan_look.proofs.lookup.run_by_stage.Goals as goal
 
 pub firsts_plan-got-requires : goal.firsts_plan-got-requires

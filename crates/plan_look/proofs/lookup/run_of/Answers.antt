@@ -2,7 +2,6 @@
 use mathlib.Core.Path.{sym, ap, ◌∙◌}
 use borrow.Author.Tests.{lt-ltb, le-ltb}
 use Rattle.plan_look.specs.Turns.{run_of}
-use borrow.Author.Rules.{rules}
 use Rattle.plan_look.proofs.lookup.run_of.Goals as goal
 
 pub returns-then-got-runs : goal.returns-then-got-runs

@@ -2,7 +2,6 @@
 use mathlib.Core.Path.{sym, ◌∙◌}
 use Rattle.judge.proofs.PlanLaws.{at_code}
 use Rattle.plan_look.proofs.Lookups.{code-total}
-use borrow.Author.Rules.{rules}
 use Rattle.plan_look.proofs.lookup.total_plan.Goals as goal
 
 pub returns : goal.returns

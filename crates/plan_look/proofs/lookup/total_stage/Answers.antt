@@ -3,7 +3,6 @@ use mathlib.Core.Path.{refl}
 use native.Mathlib.Omega.{arith}
 use Rattle.plan_look.proofs.Lookups.{look-fits}
 use Rattle.plan_look.proofs.Turns.{total-fewer, total-whole}
-use borrow.Author.Rules.{rules}
 use Rattle.plan_look.proofs.lookup.total_stage.Goals as goal
 
 pub firsts_plan-got-requires : goal.firsts_plan-got-requires

@@ -1,7 +1,6 @@
 -- `jobs_hold` asks the rules in their order. Assumes nothing.
 use native.Mathlib.Omega.{arith}
 use lib.ListN.{length}
-use borrow.Author.Rules.{rules}
 use Rattle.sheet.proofs.BoardLaws.{checked-long, checked-whole, jobs-few, jobs-uneven, jobs-any, jobs-differ}
 use Rattle.sheet.proofs.boards.jobs_hold.Goals as goal
 

@@ -1,5 +1,4 @@
 -- `read_again`: what was read before is read again. Assumes nothing.
-use borrow.Author.Rules.{rules}
 use Rattle.sheet.proofs.BoardLaws.{known-here, known-readable, again-whole, again-never}
 use Rattle.sheet.proofs.boards.read_again.Goals as goal
 

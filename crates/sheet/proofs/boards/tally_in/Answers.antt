@@ -1,8 +1,6 @@
 -- `tally_in` has counted the endings below i. Assumes nothing.
-use Prim.Native.Nat.{◌-◌}
 use native.Mathlib.Omega.{arith}
-use borrow.Author.Rules.{rules}
-use Rattle.sheet.proofs.Endings.{Tallying, tally-first, tally-turn, tally-over, tally-end}
+use Rattle.sheet.proofs.Endings.{tally-first, tally-turn, tally-over, tally-end}
 use Rattle.sheet.proofs.boards.tally_in.Goals as goal
 
 pub loop-i-init : goal.loop-i-init

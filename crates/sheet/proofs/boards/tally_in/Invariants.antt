@@ -1,8 +1,6 @@
 -- `tally_in` has counted the endings below i. Assumes nothing.
 use Prim.Native.Nat.{◌-◌}
-use native.Mathlib.Omega.{arith}
-use borrow.Author.Rules.{rules}
-use Rattle.sheet.proofs.Endings.{Tallying, tally-first, tally-turn, tally-over, tally-end}
+use Rattle.sheet.proofs.Endings.{Tallying}
 use Rattle.sheet.proofs.boards.tally_in.Given as goal
 
 abbrev pub invariant-loop-i : goal.invariant-loop-i

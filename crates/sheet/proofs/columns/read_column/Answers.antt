@@ -1,6 +1,5 @@
 -- `read_column` lends the plan's and the body's parts, and asks the list whether it is of its kind. Assumes nothing.
 use mathlib.Core.Path.{sym, ◌∙◌}
-use borrow.Author.Rules.{rules}
 use Rattle.sheet.proofs.Entered.{body-short}
 use Rattle.sheet.proofs.ReadColumns.{column-stop, column-room, column-kept, column-other}
 use Rattle.sheet.proofs.columns.read_column.Goals as goal
