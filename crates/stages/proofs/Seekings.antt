@@ -52,7 +52,7 @@ module _ {lengths : List ℕ} {count n place done end j : ℕ} (s : Seeking leng
       seeking-here c =
           record {
             told = λ length_at k m g b. s.so length_at k m g b
-            ∙ seek-here length_at n place (k - j) (m + j) end (omega arith) (get_or lengths j 0) (g j h) fit c;
+                ∙ seek-here length_at n place (k - j) (m + j) end (omega arith) (get_or lengths j 0) (g j h) fit c;
             within = h;
           }
 
