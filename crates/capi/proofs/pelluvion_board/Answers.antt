@@ -2,7 +2,6 @@
 use mathlib.Core.Path.{refl, sym, ap, ◌∙◌}
 use Rattle.meaning.specs.Says.{counted_says}
 use Rattle.capi.proofs.Tellings.{tallies}
-use borrow.Author.Rules.{rules}
 use Rattle.capi.proofs.pelluvion_board.Goals as goal
 
 pub returns-in-Tallies : goal.returns-in-Tallies

@@ -2,7 +2,6 @@
 use mathlib.Core.Path.{refl, sym, ap, ◌∙◌}
 use Rattle.meaning.specs.Says.{checked_says}
 use Rattle.capi.proofs.Tellings.{blames}
-use borrow.Author.Rules.{rules}
 use Rattle.capi.proofs.pelluvion_check.Goals as goal
 
 pub returns-in-Passed : goal.returns-in-Passed

@@ -1,7 +1,6 @@
 -- `pelluvion_fetch` tells where the body stands that the entry names. Assumes nothing.
 use Rattle.table.proofs.ColumnLaws.{opened-by, refused-by}
 use Rattle.capi.proofs.Bodies.{fetches-body, fetches-none}
-use borrow.Author.Rules.{rules}
 use Rattle.capi.proofs.pelluvion_fetch.Goals as goal
 
 pub returns-in-At : goal.returns-in-At

@@ -2,7 +2,6 @@
 use mathlib.Core.Path.{sym, ap, ◌∙◌}
 use Rattle.meaning.specs.Answer.{number}
 use Rattle.meaning.specs.Says.{judged_says}
-use borrow.Author.Rules.{rules}
 use Rattle.capi.proofs.pelluvion_judge.Goals as goal
 
 pub returns-in-Passed : goal.returns-in-Passed

@@ -2,7 +2,6 @@
 use mathlib.Core.Path.{sym, ap, ◌∙◌}
 use Rattle.meaning.specs.Says.{found_says}
 use Rattle.capi.proofs.Tellings.{tells-given, tells-refused}
-use borrow.Author.Rules.{rules}
 use Rattle.capi.proofs.pelluvion_lookup.Goals as goal
 
 pub returns-in-Number : goal.returns-in-Number

@@ -2,7 +2,6 @@
 use mathlib.Core.Path.{sym, ap, ◌∙◌}
 use Rattle.meaning.specs.Says.{reading_says}
 use Rattle.capi.proofs.Tellings.{fills-given, fills-refused}
-use borrow.Author.Rules.{rules}
 use Rattle.capi.proofs.pelluvion_read.Goals as goal
 
 pub returns-in-Whole : goal.returns-in-Whole

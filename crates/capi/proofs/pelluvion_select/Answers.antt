@@ -2,7 +2,6 @@
 use mathlib.Core.Path.{sym, ap, ◌∙◌}
 use Rattle.meaning.specs.Says.{selected_says}
 use Rattle.capi.proofs.Tellings.{tells-given, tells-refused}
-use borrow.Author.Rules.{rules}
 use Rattle.capi.proofs.pelluvion_select.Goals as goal
 
 pub returns-in-At : goal.returns-in-At

@@ -2,7 +2,6 @@
 use mathlib.Core.Path.{sym, ap, ◌∙◌}
 use Rattle.meaning.specs.Says.{sized_says}
 use Rattle.capi.proofs.Tellings.{fills-given, fills-refused}
-use borrow.Author.Rules.{rules}
 use Rattle.capi.proofs.pelluvion_write.Goals as goal
 
 pub returns-in-Bytes : goal.returns-in-Bytes

@@ -1,6 +1,5 @@
 -- `board` puts the tallies or the refusal that the board answers. Assumes nothing.
 use native.Mathlib.Omega.{arith}
-use borrow.Author.Rules.{rules}
 use Rattle.texts.proofs.Boards.{board-tallies, board-refused}
 use Rattle.texts.proofs.Putting.{widened, written}
 use Rattle.texts.proofs.board.Goals as goal

@@ -3,7 +3,6 @@ use mathlib.Core.Path.{◌∙◌}
 use native.Mathlib.Omega.{arith}
 use Rattle.texts.proofs.Putting.{widened, written}
 use Rattle.texts.proofs.Sheets.{listing-passes, listing-lines, listing-refused}
-use borrow.Author.Rules.{rules}
 use Rattle.texts.proofs.listing.Goals as goal
 
 pub put_sheet-end-requires : goal.put_sheet-end-requires

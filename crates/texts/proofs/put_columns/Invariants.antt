@@ -1,10 +1,6 @@
 -- The columns that are still to be put, put from here on, make the whole; a turn puts one. Assumes only the laws of the codes.
 use Prim.Native.Nat.{◌-◌}
-use mathlib.Core.Path.{refl}
-use Rattle.leaves.proofs.Putting.{left-long}
-use Rattle.texts.proofs.Putting.{turns-start}
-use Rattle.texts.proofs.Sheets.{passing-sheet, Listing, listing-room, listing-column, listing-turn, listing-end}
-use borrow.Author.Rules.{rules}
+use Rattle.texts.proofs.Sheets.{Listing}
 use Rattle.texts.proofs.put_columns.Given as goal
 
 abbrev pub invariant-loop-k : goal.invariant-loop-k

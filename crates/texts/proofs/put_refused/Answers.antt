@@ -1,6 +1,5 @@
 -- The line's words one after the other. Assumes nothing.
 use native.Mathlib.Omega.{arith}
-use borrow.Author.Rules.{rules}
 use Rattle.meaning.specs.Texts.{text, refused_or}
 use Rattle.texts.proofs.Lines.{line_first, line-next, line-last}
 use Rattle.texts.proofs.put_refused.Goals as goal

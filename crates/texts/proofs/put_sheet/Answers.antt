@@ -3,7 +3,6 @@ use native.Mathlib.Omega.{arith}
 use Rattle.meaning.specs.Texts.{text}
 use Rattle.texts.proofs.Lines.{line_first, line-last}
 use Rattle.texts.proofs.Sheets.{passing-sheet, sheet-lines}
-use borrow.Author.Rules.{rules}
 use Rattle.texts.proofs.put_sheet.Goals as goal
 
 pub column_count-columns-requires : goal.column_count-columns-requires

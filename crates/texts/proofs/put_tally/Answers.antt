@@ -1,6 +1,5 @@
 -- The four lines one after the other. Assumes nothing.
 use native.Mathlib.Omega.{arith}
-use borrow.Author.Rules.{rules}
 use Rattle.meaning.specs.Texts.{text, board_lines}
 use Rattle.leaves.proofs.Putting.{wrote_after}
 use Rattle.texts.proofs.put_tally.Goals as goal

@@ -8,7 +8,6 @@ use Rattle.meaning.specs.Limits.{most_numbers}
 use Rattle.meaning.specs.Places.{Below}
 use Rattle.table.proofs.ColumnLaws.{within}
 use Rattle.texts.proofs.ColumnLines.{listed_here, listed-few, listed-numbers, column-lines}
-use borrow.Author.Rules.{rules}
 use Rattle.texts.proofs.columns.put_column.Goals as goal
 
 pub count_at-count-requires : goal.count_at-count-requires

@@ -1,7 +1,6 @@
 -- The line in three parts; the plan is the column's. Assumes nothing.
 use native.Mathlib.Omega.{arith}
 use Rattle.texts.proofs.ColumnLines.{plan-formed, column-line}
-use borrow.Author.Rules.{rules}
 use Rattle.texts.proofs.columns.put_head.Goals as goal
 
 pub put_plan-second-requires : goal.put_plan-second-requires

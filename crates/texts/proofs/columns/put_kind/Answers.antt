@@ -3,7 +3,6 @@ use native.Mathlib.Omega.{arith}
 use borrow.Author.Tests.{eq-eqb, ne_eqb}
 use Rattle.meaning.specs.Limits.{rising}
 use Rattle.meaning.specs.Texts.{text, kind_text}
-use borrow.Author.Rules.{rules}
 use Rattle.texts.proofs.columns.put_kind.Goals as goal
 
 pub returns-then-kind-eq-RISING : goal.returns-then-kind-eq-RISING

@@ -4,7 +4,6 @@ use Rattle.meaning.specs.Texts.{text}
 use Rattle.texts.specs.Listing.{named}
 use Rattle.texts.proofs.Lines.{word-last, word_next}
 use Rattle.leaves.proofs.Putting.{wrote_after}
-use borrow.Author.Rules.{rules}
 use Rattle.texts.proofs.columns.put_named.Goals as goal
 
 pub returns : goal.returns

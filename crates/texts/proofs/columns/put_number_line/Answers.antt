@@ -3,7 +3,6 @@ use native.Mathlib.Omega.{arith}
 use Rattle.meaning.specs.Texts.{number_line}
 use Rattle.texts.proofs.Digits.{digits-few}
 use Rattle.texts.proofs.Lines.{line_first, line-next, line-last}
-use borrow.Author.Rules.{rules}
 use Rattle.texts.proofs.columns.put_number_line.Goals as goal
 
 pub returns : goal.returns

@@ -1,12 +1,8 @@
 -- The lines that are still to be put, put from here on, make the whole; a turn puts one. Assumes nothing.
 use Prim.Native.Nat.{◌-◌}
-use native.Mathlib.Omega.{arith}
 use lib.ListN.{length, drop}
 use Rattle.meaning.specs.Texts.{counting, number_line}
-use Rattle.texts.proofs.Listings.{counting-next, counting-end}
-use Rattle.leaves.proofs.Putting.{left-long}
-use Rattle.texts.proofs.Putting.{Turning, turns-start, turns_next, turns-end}
-use borrow.Author.Rules.{rules}
+use Rattle.texts.proofs.Putting.{Turning}
 use Rattle.texts.proofs.columns.put_numbers.Given as goal
 
 abbrev pub invariant-loop-i : goal.invariant-loop-i

@@ -10,7 +10,6 @@ use Rattle.meaning.specs.Texts.{digits, unfilled}
 use Rattle.texts.specs.Listing.{words}
 use Rattle.texts.proofs.Plans.{plan-within}
 use Rattle.leaves.proofs.Putting.{wrote_as}
-use borrow.Author.Rules.{rules}
 use Rattle.texts.proofs.columns.put_plan.Goals as goal
 
 pub slice_bounds-put_smalls-end : goal.slice_bounds-put_smalls-end

@@ -3,7 +3,6 @@ use native.Mathlib.Omega.{arith}
 use Rattle.meaning.specs.Texts.{text}
 use Rattle.texts.specs.Listing.{sized}
 use Rattle.texts.proofs.Lines.{line-next, line-last}
-use borrow.Author.Rules.{rules}
 use Rattle.texts.proofs.columns.put_sized.Goals as goal
 
 pub returns : goal.returns

@@ -1,14 +1,10 @@
 -- The words that are still to be put, put from here on, make the whole; a turn puts one. Assumes nothing.
 use Prim.Native.Nat.{◌-◌}
 use mathlib.Core.List.{map}
-use native.Mathlib.Omega.{arith}
 use lib.ListN.{length, drop}
 use Rattle.meaning.specs.Texts.{digits}
 use Rattle.texts.specs.Listing.{words}
-use Rattle.texts.proofs.Listings.{smalls-next, smalls-end}
-use Rattle.leaves.proofs.Putting.{left-long}
-use Rattle.texts.proofs.Putting.{Turning, turns-start, turns_next, turns-end}
-use borrow.Author.Rules.{rules}
+use Rattle.texts.proofs.Putting.{Turning}
 use Rattle.texts.proofs.columns.put_smalls.Given as goal
 
 abbrev pub invariant-loop-i : goal.invariant-loop-i

@@ -1,6 +1,5 @@
 -- A line of a word and a number, word by word. Assumes nothing.
 use native.Mathlib.Omega.{arith}
-use borrow.Author.Rules.{rules}
 use Rattle.texts.proofs.Lines.{line_first, line-next, line-last}
 use Rattle.texts.proofs.pieces.put_line.Goals as goal
 

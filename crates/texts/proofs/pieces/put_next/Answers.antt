@@ -1,5 +1,4 @@
 -- A space, then the word. Assumes nothing.
-use borrow.Author.Rules.{rules}
 use Rattle.leaves.proofs.Putting.{wrote_after}
 use Rattle.texts.proofs.pieces.put_next.Goals as goal
 

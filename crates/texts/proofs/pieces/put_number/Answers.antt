@@ -1,6 +1,5 @@
 -- A space, then the digits. Assumes nothing.
 use native.Mathlib.Omega.{arith}
-use borrow.Author.Rules.{rules}
 use Rattle.leaves.proofs.Putting.{wrote_after}
 use Rattle.texts.proofs.pieces.put_number.Goals as goal
 

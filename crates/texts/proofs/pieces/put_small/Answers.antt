@@ -1,5 +1,4 @@
 -- A byte is its number. Assumes nothing.
-use borrow.Author.Rules.{rules}
 use Rattle.texts.proofs.pieces.put_small.Goals as goal
 
 pub returns : goal.returns

@@ -1,10 +1,8 @@
 -- What is still to be put, put from here on, makes the whole word. Assumes nothing.
-use Prim.Native.Nat.{◌-◌}
 use native.Mathlib.Omega.{arith}
-use lib.ListN.{length, drop, drop_of_length-le}
-use Rattle.leaves.proofs.Putting.{Left, left-start, left-long, left-most, left-turn, left_end}
+use lib.ListN.{drop_of_length-le}
+use Rattle.leaves.proofs.Putting.{left-start, left-long, left-most, left-turn, left_end}
 use Rattle.texts.proofs.Putting.{rest-next}
-use borrow.Author.Rules.{rules}
 use Rattle.texts.proofs.pieces.put_word.Goals as goal
 
 pub loop-i-init : goal.loop-i-init
