@@ -1,5 +1,5 @@
 # `make` proves the two programs, a line a crate, and shows the board of a sample night and how its listing begins, `make test` is the gate, `make lib` writes the C library
-# (target/staticlib/libcapi.a for include/pelluvion.h), `make bench` counts what it costs beside plain C.
+# (crates/capi/out/libcapi.a for include/pelluvion.h), `make bench` counts what it costs beside plain C.
 .PHONY: all test lib bench
 
 all:
@@ -11,7 +11,7 @@ test:
 	bash .ci/run
 
 lib:
-	rt staticlib capi
+	cd crates/capi && rt lib
 
 bench: lib
-	python3 bench/run.py target/staticlib/libcapi.a
+	python3 bench/run.py crates/capi/out/libcapi.a

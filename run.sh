@@ -1,8 +1,4 @@
 #!/usr/bin/env bash
-# run.sh PROGRAM < SHEET: runs a proved program of target/bin with the kit's C library, under the kit's emulator where the machine is not x86-64.
+# run.sh PROGRAM < SHEET: runs a proved program, which `rt run` in its crate's folder, or `rt ci`, leaves in that folder's out/.
 set -euo pipefail
-kit=$(dirname "$(dirname "$(rt doc)")")
-tools=$kit/on/$(uname -m)/toolchain
-emulator=$tools/bin/qemu-x86_64
-[ -x "$emulator" ] || emulator=
-exec $emulator "$tools/lib/ld-linux-x86-64.so.2" --library-path "$tools/lib" "$(dirname "$0")/target/bin/$1"
+exec "$(dirname "$0")/crates/$1/out/$1"

@@ -147,4 +147,4 @@ def main(archive):
 
 
 if __name__ == "__main__":
-    main(sys.argv[1] if len(sys.argv) > 1 else os.path.join(machine.ROOT, "target", "staticlib", "libcapi.a"))
+    main(sys.argv[1] if len(sys.argv) > 1 else os.path.join(machine.ROOT, "crates", "capi", "out", "libcapi.a"))

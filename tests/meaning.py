@@ -1,7 +1,7 @@
 #!/usr/bin/env python3
 """The meaning, computed, against the plain reading: random cases become equations between a definition of
 crates/meaning/specs and what tests/reading.py answers, and the checker has to find every one true by computation.
-Usage: meaning.py [cases] [seed]. The equations stand in a repository of their own below target/."""
+Usage: meaning.py [cases] [seed]. The equations stand in a repository of their own, in a temporary folder."""
 import glob
 import os
 import random
@@ -9,12 +9,12 @@ import re
 import shutil
 import subprocess
 import sys
+import tempfile
 
 import reading as R
 from examples import SORTS
 
 ROOT = os.path.join(os.path.dirname(os.path.abspath(__file__)), "..")
-PLACE = os.path.join(ROOT, "target", "meaning-cases")
 CASES = int(sys.argv[1]) if len(sys.argv) > 1 else 600
 RANDOM = random.Random(int(sys.argv[2]) if len(sys.argv) > 2 else 1)
 LARGEST = 2 ** 32 - 1
@@ -137,7 +137,7 @@ def case_direct():
     for stages, body, n in (([8], second, 3), ([16, 8], R.u32(10) + second, 3), ([17, 8], second, 3), ([17, 16, 8], R.u32(10) + second, 3),
                             ([18, 8, 1], parts + second + b"\1\2\1", 4), ([18, 1, 8], three + three + b"\7\x08\x09" + second, 9),
                             ([18, 8, 8], parts + second + R.write_code(R.DIRECT, [1, 2, 1]), 4), ([17, 18, 8, 1], parts + second + b"\1\1\1", 3)):
-        in_full("(planOf %s)" % listed(fill(stages)), R.parse_plan(fill(stages)), body, n)
+        in_full("(plan_of %s)" % listed(fill(stages)), R.parse_plan(fill(stages)), body, n)
 
 
 def case_sums():
@@ -183,7 +183,7 @@ def case_spoilt():
     """Which sort of fault: bodies cut and broken at once, read and looked up at every place; or sheets of them, their table true."""
     if RANDOM.random() < 0.7:
         _, bytes_of_plan, tree, n, body = spoilt_column()
-        in_full("(planOf %s)" % listed(bytes_of_plan), tree, body, n)
+        in_full("(plan_of %s)" % listed(bytes_of_plan), tree, body, n)
         return
     columns = [spoilt_column() for _ in range(RANDOM.randint(1, 2))]
     table = b"".join(bytes([kind]) + p + R.u32(n) + R.u32(len(body)) for kind, p, _, n, body in columns)
@@ -195,7 +195,7 @@ def case_spoilt():
 def case_sorts():
     """The examples of both sorts, and bodies by each code cut at every byte."""
     for stages, text_of_body, n, _, _ in SORTS:
-        in_full("(planOf %s)" % listed(fill(stages)), R.parse_plan(fill(stages)), bytes.fromhex(text_of_body), n)
+        in_full("(plan_of %s)" % listed(fill(stages)), R.parse_plan(fill(stages)), bytes.fromhex(text_of_body), n)
     for code in R.CODES:
         whole = R.write_code(code, [300, 0, LARGEST] if code != R.GAMMA else [300, 0, 65535])
         for end in range(len(whole) + 1):
@@ -230,7 +230,7 @@ def case_plan():
     if R.judge(kind, bytes_of_plan):
         return
     tree, n = R.parse_plan(bytes_of_plan), RANDOM.randint(0, 5)
-    body, tree_is = R.write_plan(tree, xs := numbers(kind, n)), "(planOf %s)" % listed(bytes_of_plan)
+    body, tree_is = R.write_plan(tree, xs := numbers(kind, n)), "(plan_of %s)" % listed(bytes_of_plan)
     says("write %s %s" % (tree_is, listed(xs)), listed(body))
     body = damaged(body)
     says("read %s %s %d" % (tree_is, listed(body), n), answer(lambda: R.read_plan(tree, body, n), listed))
@@ -341,9 +341,9 @@ def case_programs():
     whole.append(sheet((1, [17, 18, 1, 1], list(range(1, 1025))), (0, [18, 1, 1], 1024 * [256])))
     for given in whole + [drawn_sheet() for _ in range(CASES // 20)]:
         programs(given)
-    for program in "listing", "board":          # what `rt check` holds the programs to
+    for program in "listing", "board":          # what `rt ci` holds the programs to
         given, printed = [open(os.path.join(ROOT, "crates", program, name), "rb").read() for name in ("stdin", "stdout")]
-        says("%sText %s" % (program, listed(given)), listed(printed))
+        says("%s_text %s" % (program, listed(given)), listed(printed))
 
 
 def text():
@@ -352,12 +352,12 @@ def text():
         given = open(path).read()
         found = re.findall(r"^\s*unfoldable pub (\S+) :", given, re.M)
         for together in re.findall(r"^unfoldable mutual\n((?:\n|  .*\n)*)", given, re.M):     # definitions that call each other
-            found += re.findall(r"^  pub (\S+) :", together, re.M)
+            found += re.findall(r"^ +pub (\S+) :", together, re.M)
         if found:
             names[os.path.basename(path)[:-5]] = found
-    lines = ["use Prim.Native.Nat.{ℕ}", "use mathlib.Core.Path.{_≡_, refl}", "use mathlib.Core.List.{List, [], _∷_}",
-             "use Rattle·meaning.specs.Answer.{given, refused, passed, blamed, number}", "use Rattle·meaning.specs.Plan.{code}"]
-    lines += ["use Rattle·meaning.specs.%s.{%s}" % (module, ", ".join(found)) for module, found in names.items()]
+    lines = ["use Rattle.std.specs.Prelude.{ℕ, List, [], ◌∷◌, ◌≡◌, refl}",
+             "use Rattle.meaning.specs.Answer.{given, refused, passed, blamed, number}", "use Rattle.meaning.specs.Plan.{code}"]
+    lines += ["use Rattle.meaning.specs.%s.{%s}" % (module, ", ".join(found)) for module, found in names.items()]
     lines += ["", "unfoldable meaning : ℕ", "unfolding " + " ".join(n for found in names.values() for n in found), "meaning = 0", ""]
     for i, (left, right) in enumerate(equations):
         lines += ["case-%d : %s ≡ %s" % (i, left, right), "unfolding meaning", "case-%d = refl" % i, ""]
@@ -376,15 +376,16 @@ def main():
     case_sums()
     case_editions()
     case_programs()
-    shutil.rmtree(PLACE, ignore_errors=True)
-    os.makedirs(os.path.join(PLACE, "crates/cases/src"))
-    os.makedirs(os.path.join(PLACE, "crates/cases/specs"))
-    shutil.copytree(os.path.join(ROOT, "crates/meaning"), os.path.join(PLACE, "crates/meaning"), ignore=shutil.ignore_patterns("must-fail"))
-    for path, content in [("crates.txt", "meaning:\ncases: meaning\n"), ("crates/cases/src/lib.rt", "// Equations alone.\n"),
-                          ("crates/cases/specs/Lib.antt", "pub mod Cases\n"), ("crates/cases/specs/Cases.antt", text())]:
-        with open(os.path.join(PLACE, path), "w") as f:
-            f.write(content)
-    run = subprocess.run(["rt", "check"], cwd=PLACE, capture_output=True, text=True)
+    with tempfile.TemporaryDirectory(prefix="meaning-cases-") as place:
+        for folder in "cases/src", "cases/specs":
+            os.makedirs(os.path.join(place, "crates", folder))
+        for part in "src", "specs", "proofs":
+            shutil.copytree(os.path.join(ROOT, "crates/meaning", part), os.path.join(place, "crates/meaning", part))
+        for path, content in [("crates.txt", "meaning:\ncases: meaning\n"), ("crates/cases/src/lib.rt", "// Equations alone.\n#![tactic(auto)]\n"),
+                              ("crates/cases/specs/Lib.antt", "pub mod Cases\n"), ("crates/cases/specs/Cases.antt", text())]:
+            with open(os.path.join(place, path), "w", encoding="utf-8") as f:
+                f.write(content)
+        run = subprocess.run(["rt", "check"], cwd=os.path.join(place, "crates/cases"), capture_output=True, text=True)
     said = run.stdout + run.stderr
     differ = sorted(set(int(n) for n in re.findall(r"`case-(\d+)`", said)))
     for n in differ[:10]:
@@ -392,7 +393,7 @@ def main():
     if run.returncode and not differ:
         print(said[-2000:])
     print("%d equations of the meaning, %d differ" % (len(equations), len(differ)))
-    sys.exit(1 if run.returncode else 0)
+    sys.exit(1 if run.returncode or differ else 0)
 
 
 main()

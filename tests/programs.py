@@ -1,4 +1,4 @@
-"""Runs the two programs of target/bin (`rt check listing board`) on further cases and compares what they print: written out here
+"""Runs the two programs, as `rt ci` or `rt run` left them in their crates' out/, on further cases and compares what they print: written out here
 where the document prints it, else with the independent reading.  Exit status 1 if any differ, or a refusal that can reach them was not seen
 in each edition (0: accepted)."""
 

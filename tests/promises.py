@@ -1,5 +1,6 @@
 #!/usr/bin/env python3
-"""Checks that docs/PROMISES.md names theorems that are there: each is declared `pub` in the file that its line names."""
+"""Checks that docs/PROMISES.md names theorems that are there: each is declared `pub` in the file that its line names. Of a source file it is a
+function's contract: Rattle makes the theorem F_spec of what the public function F there ensures."""
 import pathlib
 import re
 import sys
@@ -8,14 +9,17 @@ root = pathlib.Path(__file__).resolve().parent.parent
 
 
 def named(line):
-    """The theorems and the file of a table's line, where it names a file of proofs."""
+    """The theorems and the file of a table's line, where it names a file of proofs or a source."""
     cells = [cell.strip() for cell in line.strip().strip("|").split("|")]
-    if len(cells) != 3 or not cells[2].endswith(".antt"):
+    if len(cells) != 3 or not cells[2].endswith((".antt", ".rt")):
         return [], None
     return re.findall(r"`([^`]+)`", re.sub(r"\(.*?\)", "", cells[1])), cells[2]
 
 
-def declared(theorem, text):
+def declared(theorem, file, text):
+    if file.endswith(".rt"):
+        function = re.escape(theorem.removesuffix("_spec"))
+        return theorem.endswith("_spec") and re.search(rf"^pub fn {function}\((?:(?!^{{|^}}).*\n)*?\s+ensures {{", text, re.MULTILINE)
     return re.search(rf"^\s*pub {re.escape(theorem)}(?: \{{[^}}]*\}})? :", text, re.MULTILINE)
 
 
@@ -31,7 +35,7 @@ def main():
             missing.append(f"no theorem named: {line}")
         for theorem in theorems:
             count += 1
-            if not declared(theorem, text):
+            if not declared(theorem, file, text):
                 missing.append(f"{theorem} is not in {file}")
     for problem in missing:
         print(problem)

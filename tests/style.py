@@ -11,7 +11,7 @@ HERE = os.path.dirname(os.path.abspath(__file__))
 CRATES = os.path.join(os.path.dirname(HERE), "crates")
 STORED = os.path.join(HERE, "style.counts")
 WIDTH, STEPS = 160, 6
-PATH = re.compile(r"(?: \.before){%d,}" % (STEPS + 1))
+PATH = re.compile(r"(?: ?\.before){%d,}" % (STEPS + 1))
 
 
 def files_read():

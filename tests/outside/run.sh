@@ -1,6 +1,6 @@
 #!/usr/bin/env bash
 # The tests from outside on the library's archive, as a C program meets it: bash tests/outside/run.sh ARCHIVE [OPERATIONS]
-# (the archive: `rt staticlib capi`, target/staticlib/libcapi.a).  Installs what is missing.  Exit status 0: nothing differs.
+# (the archive: crates/capi/out/libcapi.a, by `rt lib` in crates/capi).  Installs what is missing.  Exit status 0: nothing differs.
 set -euo pipefail
 archive=$(realpath "$1")
 cd "$(dirname "$0")"
