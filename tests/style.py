@@ -15,7 +15,9 @@ PATH = re.compile(r"(?: ?\.before){%d,}" % (STEPS + 1))
 
 
 def files_read():
-    for folder, _, names in sorted(os.walk(CRATES)):
+    for folder, below, names in os.walk(CRATES):
+        # a crate's out/ holds what rt made of its files
+        below[:] = sorted(name for name in below if name != "out" or os.path.dirname(folder) != CRATES)
         yield from (os.path.join(folder, name) for name in sorted(names) if name.endswith((".antt", ".rt")))
 
 
