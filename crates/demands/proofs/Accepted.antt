@@ -34,7 +34,8 @@ held orders numbers e =
     let (f, rest) = both_true (leb (length orders) most_columns) _ e in
     record { few = leb-true (length orders) most_columns f; each = (both_true (all order_holds orders) _ rest).0 }
 
-listed-kind : (orders : List Order) (numbers : List ℕ) → all order_holds orders ≡ true → (k : ℕ) → (get_or (listed_by orders numbers) k blank_listed).kind ≤ rising
+listed-kind : (orders : List Order) (numbers : List ℕ) → all order_holds orders ≡ true → (k : ℕ) →
+    (get_or (listed_by orders numbers) k blank_listed).kind ≤ rising
 unfolding listed_by all
 listed-kind [] numbers h k = omega arith
 listed-kind (o ∷ os) numbers h zero =
@@ -124,7 +125,8 @@ pub record NeverStuck (edition : ℕ) (orders : List Order) (numbers : List ℕ)
   pub within : length (sheet_bytes edition (listed_by orders numbers)) ≤ worst_sheet edition (listed_by orders numbers)
   pub passes : (check_work : ℕ) → 8 * largest (map (λ (c : Listed). length c.numbers) (listed_by orders numbers)) ≤ check_work
       → check (sheet_bytes edition (listed_by orders numbers)) check_work ≡ passed
-  pub reads : (k : ℕ) → k < length orders → numbers_at (sheet_bytes edition (listed_by orders numbers)) k ≡ (get_or (listed_by orders numbers) k blank_listed).numbers
+  pub reads : (k : ℕ) → k < length orders → numbers_at (sheet_bytes edition (listed_by orders numbers)) k ≡
+      (get_or (listed_by orders numbers) k blank_listed).numbers
 
 pub never_stuck : (edition : ℕ) (orders : List Order) (numbers : List ℕ) (work room : ℕ)
     → is_edition edition ≡ true → Below number_limit numbers → orders_hold orders numbers ≡ true

@@ -143,7 +143,8 @@ demand-2 =
           filled-with (write_sheet (edition_of sheet) (own_orders sheet) (own_numbers sheet) (length work) (length o)) sheet o a
           (same-sheet sheet p.bytes (length p.passes.0) (sym p.passes.1) (length work) (length o) enough fits);
       again_apart = λ sheet p work o enough fits a.
-          filled-with (write_apart (edition_of sheet) (own_kinds sheet) (own_plans sheet) (own_counts sheet) (own_numbers sheet) (length work) (length o)) sheet o a
+          filled-with (write_apart (edition_of sheet) (own_kinds sheet) (own_plans sheet) (own_counts sheet) (own_numbers sheet) (length work)
+          (length o)) sheet o a
           (same-apart sheet p.bytes (length p.passes.0) (sym p.passes.1) (length work) (length o) enough fits);
     }
 

@@ -51,7 +51,8 @@ module _ (sheet : List ℕ) (bytes : Below 256 sheet) (check_work : ℕ) (passes
   many = numbers-many sheet bytes check_work passes k there
 
   looks : (place : ℕ) → place < length xs → (r : Found) → Looks sheet k place r → r ≡ Number (get_or xs place 0)
-  looks place h r e = one-lookup sheet k place r (Number (get_or xs place 0)) e (sym (looks-all sheet bytes check_work passes k there place (omega (arith, many))))
+  looks place h r e = one-lookup sheet k place r (Number (get_or xs place 0)) e
+      (sym (looks-all sheet bytes check_work passes k there place (omega (arith, many))))
 
   reads : (work o : List ℕ) → 7 * length xs ≤ length work → length xs ≤ length o → (a : Reading × List ℕ) → Reads sheet k work o a
       → a ≡ (Whole (length xs), xs ++ drop (length xs) o)

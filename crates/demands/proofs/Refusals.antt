@@ -11,7 +11,8 @@ use borrow.Author.Tests.{eqb-true, leb-true}
 use Rattle.meaning.specs.Answer.{Answer, given, refused, bind, need, number, Verdict, passed, blamed, ◌then◌, ask, in_turn, after}
 use Rattle.meaning.specs.Bits.{low_bits}
 use Rattle.meaning.specs.Limits.{most_numbers, most_bytes, rising}
-use Rattle.meaning.specs.Limits.{no_sheet, bad_table, bad_plan, unfit_plan, no_column, no_place, no_room, short_work, cut_short, fallen, bad_orders, bad_board, broken}
+use Rattle.meaning.specs.Limits.{no_sheet, bad_table, bad_plan, unfit_plan, no_column, no_place}
+use Rattle.meaning.specs.Limits.{no_room, short_work, cut_short, fallen, bad_orders, bad_board, broken}
 use Rattle.meaning.specs.Lists.{all, largest}
 use Rattle.meaning.specs.Operations.{Order, listed_by, orders_hold, orders_of, column, numbers_at, board_holds, board_verdict, tallied}
 use Rattle.meaning.specs.Operations.{write_listed, write_sheet, write_apart, check, read_sheet, look_sheet, fetch, open_reader, count_board}
@@ -179,7 +180,8 @@ pub board-refusals : (sheet : List ℕ) (work : ℕ) → BlamesBy (1 ∷ 2 ∷ 3
 unfolding count_board board_verdict among
 board-refusals sheet work =
     tallied-by counting (board_verdict sheet work) (numbers_at sheet 1)
-    (by-then counting (check sheet work) _ (check-by counting refl refl refl refl sheet refl refl refl work) (by-ask counting (board_holds sheet) bad_board refl))
+    (by-then counting (check sheet work) _ (check-by counting refl refl refl refl sheet refl refl refl work)
+    (by-ask counting (board_holds sheet) bad_board refl))
 
 -- ---- number 0 says accepted
 among-some : (e : ℕ) (es : List ℕ) → all (leb 1) es ≡ true → among e es ≡ true → e ≡ 0 → ⊥

@@ -165,7 +165,8 @@ module _ (sheet : List ℕ) (bytes : Below 256 sheet) (check_work : ℕ) (passes
     pub same-apart : write_apart (edition_of sheet) (own_kinds sheet) (own_plans sheet) (own_counts sheet) (own_numbers sheet) work room ≡ given sheet
     same-apart =
         let kinds = length-map cs (λ (c : Column). c.kind) in
-        apart-is (edition_of sheet) (own_kinds sheet) (own_plans sheet) (own_counts sheet) (own_numbers sheet) work room (omega (arith, own-plans cs kept, kinds))
+        apart-is (edition_of sheet) (own_kinds sheet) (own_plans sheet) (own_counts sheet) (own_numbers sheet) work room
+        (omega (arith, own-plans cs kept, kinds))
         (length-map cs (λ (c : Column). c.count) ∙ sym kinds)
         ∙ ap (λ (os : List Order). write_sheet (edition_of sheet) os (own_numbers sheet) work room) (own-apart cs kept)
         ∙ same-sheet

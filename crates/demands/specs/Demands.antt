@@ -1,6 +1,7 @@
 -- THE DEMANDS of the library's users. Each is one proposition, a record whose fields are its sentences; proofs/Demands.antt proves them and assumes nothing.
 -- Read `(x : A) → B` for every x of A, B; `A → B` if A then B; `A × B` both; `a ≡ b` equal; `λ x. e` e as a function of x; `a.0`, `a.1` the parts of a pair.
--- Lists: `get_or xs i 0` is element i, `take n xs` the first n, `drop n xs` those after them, `xs ++ ys` one after the other, `x ∷ xs` x and then xs, `[]` none.
+-- Lists: `get_or xs i 0` is element i, `take n xs` the first n, `drop n xs` those after them, `xs ++ ys` one after the other, `x ∷ xs` x and then
+-- xs, `[]` none.
 -- What an operation may answer is what meets its contract, the equations of its `ensures` (specs/Contracts.antt): they define the answer by document 01, whose
 -- words are in crates/meaning/specs. r is the answer, o what the output held, o' what it holds afterwards, k a column, e a refusal's number, 0 for none:
 --     Judges kind plan r                     judge::judge       Sizes plan n r           judge::worst_size     Checks sheet work r         sheet::check
@@ -25,7 +26,8 @@ use Rattle.meaning.specs.Rank.{rank, select}  -- ones counted and found
 use Rattle.meaning.specs.Says.{judged_says, sized_says, reading_says, found_says, checked_says, counted_says}  -- what an answer of the source says
 use Rattle.meaning.specs.Says.{ranked_says, selected_says}
 use Rattle.meaning.specs.Sheet.{is_edition, of_kind, sheet_bytes, worst_sheet}  -- 1 or 2; a list is of a kind; the defined bytes of columns; their worst size
-use Rattle.meaning.specs.Sheet.{edition_of, columns_of, column_at, read_column, largest_count}  -- byte 0; its columns; column k; one read strictly; largest count
+use Rattle.meaning.specs.Sheet.{edition_of, columns_of}
+use Rattle.meaning.specs.Sheet.{column_at, read_column, largest_count}  -- byte 0; its columns; column k; one read strictly; largest count
 use Rattle.meaning.specs.Sheet.{Column}  -- a column: its kind, its plan, its count, its body
 use Rattle.stages.specs.Bodies.{with_body}  -- a column with another body
 use Rattle.writer.specs.Orders.{blank_listed}  -- what stands for a column that is not there

@@ -56,7 +56,8 @@ module _ (bytes : List ℕ) where
         and_both _ _ _ _ refl (eq-eqb _ _ l) (and_both _ _ _ _ refl g (eb ∙ ap (λ (k : ℕ). all (eqb 0) (drop k bytes)) s))
 
 -- ---- the judge's refusals in their order
-module _ (kind : ℕ) (bytes : List ℕ) (known formed passed : Bool) (ef : formed ≡ well_formed bytes) (ep : passed ≡ passes kind (plan_at most_stages bytes 0)) where
+module _ (kind : ℕ) (bytes : List ℕ) (known formed passed : Bool) (ef : formed ≡ well_formed bytes)
+    (ep : passed ≡ passes kind (plan_at most_stages bytes 0)) where
   pub unknown : not known ≡ true → refused bad_orders ≡ need known bad_orders (judge_plan kind bytes)
   unknown e = rw (not-true known e)
 

@@ -25,7 +25,8 @@ module _ {A B : Type 0} (f : A → List B) where
 
   -- one element more
   pub joined-next : (xs : List A) (d : A) (i : ℕ) → i < length xs → joined f (take (i + 1) xs) ≡ joined f (take i xs) ++ f (get_or xs i d)
-  joined-next xs d i h = rw (add-one, take-suc xs i d h, joined-append (take i xs)) (ap (λ (l : List B). joined f (take i xs) ++ l) (joined-one (get_or xs i d)))
+  joined-next xs d i h = rw (add-one, take-suc xs i d h, joined-append (take i xs))
+      (ap (λ (l : List B). joined f (take i xs) ++ l) (joined-one (get_or xs i d)))
 
 -- of elements that were made of others
 pub joined-map : {A B C : Type 0} (f : B → List C) (g : A → B) (xs : List A) → joined f (map g xs) ≡ joined (λ x. f (g x)) xs

@@ -1,6 +1,7 @@
 -- What a computed example has to see through: all of the meaning.
 use Prim.Native.Nat.{ℕ}
-use Rattle.meaning.specs.Bits.{bits_high, bits_of, number_high, byte_of, pack_in, pack, bits_low, number_low, low_bits, pack_low, zeros_first, digits_in, bit_length}
+use Rattle.meaning.specs.Bits.{bits_high, bits_of, number_high, byte_of, pack_in, pack}
+use Rattle.meaning.specs.Bits.{bits_low, number_low, low_bits, pack_low, zeros_first, digits_in, bit_length}
 use Rattle.meaning.specs.Bytes.{bytes_of, number_of, word, word_at}
 use Rattle.meaning.specs.Codes.{is_code, code_of, read_code, look_code}
 use Rattle.meaning.specs.Direct.{flag_bytes, sum_count, sums_at, data_at, last_bits, sum_bytes, direct_parts, write_direct, worst_direct}
@@ -36,7 +37,8 @@ unfolding
     byte_length fewest data_bytes data_in
     ones_before one_at rank select
     flag_bytes sum_count sums_at data_at last_bits sum_bytes direct_parts write_direct worst_direct
-    parts_fit flags sum_at number_in unit_direct true_sums spare_zero done_direct stretch_from stretch_of ended_before zeros_before ending_at stretch_bits look_direct
+    parts_fit flags sum_at number_in unit_direct true_sums spare_zero done_direct stretch_from stretch_of ended_before zeros_before ending_at
+    stretch_bits look_direct
     fits blocks_from blocks end_bits block_control block write_g8iu
     lengths_by block_lengths block_in unit_g8iu joins_g8iu
     pieces_from pieces group_count control_of lengths_in control controls write_groups write_stream group_in group_from group_at unit_groups unit_stream

@@ -1,7 +1,8 @@
 -- The directly addressed list: 4 bytes with the number of data bytes; a bit for each data byte, lowest bit of each byte first, 1 where a number ends,
 -- spare bits 0; a 2-byte sum for every full 512 bits, called a stretch, the ones before and including them; the data bytes, fewest a number, least
 -- significant first. Unit: one number. A number is also looked up directly, by the sums.
-use Rattle.std.specs.Prelude.{ℕ, zero, suc, ◌+◌, ◌-◌, ◌*◌, ◌/◌, Bool, true, ◌&&◌, cond, List, [], ◌∷◌, ◌++◌, leb, ltb, eqb, length, get_or, take, drop, replicate}
+use Rattle.std.specs.Prelude.{ℕ, zero, suc, ◌+◌, ◌-◌, ◌*◌, ◌/◌, Bool, true, ◌&&◌, cond}
+use Rattle.std.specs.Prelude.{List, [], ◌∷◌, ◌++◌, leb, ltb, eqb, length, get_or, take, drop, replicate}
 use Rattle.meaning.specs.Answer.{Answer, given, bind, need}
 use Rattle.meaning.specs.Bits.{low_bits, pack_low, zeros_first}
 use Rattle.meaning.specs.Bytes.{bytes_of, number_of, word, word_at}

@@ -12,7 +12,7 @@ pub struct Gathered {
     pub n: usize,
 }
 
-// One order of the list. A walk by hand.
+// One order of the list.
 pub fn order_at(orders: &[Order], i: usize) -> Order
     requires { i < length orders.now }
     ensures { result ≡ get_or orders.now i none }
@@ -52,7 +52,7 @@ pub fn upto(n: usize) -> usize
     if n < MOST_COLUMNS { n } else { MOST_COLUMNS }
 }
 
-// A walk by hand, with a loop.
+// The first orders of the list, and how many they are.
 pub fn gather(orders: &[Order]) -> Gathered
     ensures { result ≡ gathered orders.now }
 {

@@ -1,5 +1,5 @@
 // The writer of sheets over a lent list of column orders.
-// The list is a slice of structs, so it is taken apart by hand; the writer over plain slices does the work.
+// The list is a slice of structs, so it is taken apart first; the writer over plain slices does the work.
 #![tactic(auto)]
 
 ghost use Rattle.std.specs.Prelude.{[], ◌∷◌, map};
@@ -35,7 +35,7 @@ pub fn write(
     write_gathered(edition, g, joined, work, out)
 }
 
-// Writes a sheet of two columns. Its parameters are plain, so whoever calls it needs no walk by hand.
+// Writes a sheet of two columns, each order a plain parameter.
 pub fn write_two(
     edition: u8,
     a: Order,

@@ -120,6 +120,7 @@ module _ (p q : Plan) (body : List ℕ) (n from : ℕ) where
             (record { told = u.told; here = u.here; kept = u.kept ∙ kept₂ })
 
 -- the second inner plan, by way of where the first ends
-pub got-second : (l : ℕ) (bytes : List ℕ) (x m : ℕ) (p : Plan) (body : List ℕ) (n from : ℕ) (w w' : List ℕ) (r : Reading) → m ≡ x + plan_size (plan_at l bytes x)
+pub got-second : (l : ℕ) (bytes : List ℕ) (x m : ℕ) (p : Plan) (body : List ℕ) (n from : ℕ) (w w' : List ℕ) (r : Reading) → m ≡ x + plan_size
+    (plan_at l bytes x)
     → Got (read (runs p (plan_at l bytes m)) body n) from w w' r → Got (read (runs p (plan_at l bytes (x + plan_size (plan_at l bytes x)))) body n) from w w' r
 got-second l bytes x m p body n from w w' r e s = subst (λ (k : ℕ). Got (read (runs p (plan_at l bytes k)) body n) from w w' r) e s

@@ -1,4 +1,4 @@
-// A reader stands on one column of a lent sheet. The branches are in covered functions; what takes, makes or lends the struct is proved by hand.
+// A reader stands on one column of a lent sheet, and each call gives the next number.
 #![tactic(auto)]
 
 ghost use Rattle.std.specs.Prelude.{◌≡◌, min};

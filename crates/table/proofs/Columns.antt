@@ -126,7 +126,8 @@ module _ (sheet : List ℕ) where
   unfolding sum
   sizes-all =
       sizes-from (column_count sheet) (omega arith)
-      ∙ rw (drop_of_length-le (columns_of sheet) {i = column_count sheet} (omega (arith, column-count sheet))) (add-zero (sizes_before sheet (column_count sheet)))
+      ∙ rw (drop_of_length-le (columns_of sheet) {i = column_count sheet} (omega (arith, column-count sheet)))
+      (add-zero (sizes_before sheet (column_count sheet)))
 
   pub sizes-rise : (j k : ℕ) → j ≤ k → sizes_before sheet j ≤ sizes_before sheet k
   unfolding sizes_before

@@ -68,7 +68,8 @@ module _ (edition : ℕ) (e : Entry) where
 
 -- ---- read, and laid down
 parts : (edition : ℕ) (table : List ℕ) → entry_size edition ≤ length table
-    → get_or table 0 0 ∷ (take plan_bytes (drop plan_in table) ++ (take 4 (drop count_in table) ++ take 4 (drop size_in table))) ≡ take (entry_size edition) table
+    → get_or table 0 0 ∷ (take plan_bytes (drop plan_in table) ++ (take 4 (drop count_in table) ++ take 4 (drop size_in table))) ≡ take
+    (entry_size edition) table
 unfolding entry_size
 parts edition [] h = absurd (omega arith)
 parts edition (x ∷ t) h =

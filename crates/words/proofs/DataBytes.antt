@@ -182,7 +182,8 @@ module _ (x : ℕ) (h : x < 2 ^ 32) where
       let s : x < 1 = fits t.0 0 t.2 (omega (arith, t.1)) in
       simp (lt-ltb x (2 ^ 8) (omega arith))
 
-  by_digits : (m : ℕ) → count_leading_zeros 32 x + m ≡ 32 → x < 2 ^ m → 2 ^ m ≤ 2 * x + 1 → (count_leading_zeros 32 x ≡ 32 → ⊥) → 4 - count_leading_zeros 32 x / 8 ≡ byte_length x
+  by_digits : (m : ℕ) → count_leading_zeros 32 x + m ≡ 32 → x < 2 ^ m → 2 ^ m ≤ 2 * x + 1 → (count_leading_zeros 32 x ≡ 32 → ⊥)
+      → 4 - count_leading_zeros 32 x / 8 ≡ byte_length x
   unfolding byte_length
   by_digits m e lo hi some =
       by_order 8 m

@@ -15,7 +15,8 @@ use Rattle.leaves.proofs.lay.Goals as goal
 lay-turn : (w₀ w ns : List ℕ) (at i : ℕ) → i < length ns → w ≡ sets w₀ at (take i ns) → set w (at + i) (get_or ns i 0) ≡ sets w₀ at (take (i + 1) ns)
 lay-turn w₀ w ns at i k e =
     let n : length (take i ns) ≡ i = length-take-le i ns (omega arith) in
-    rw (e, add-one, take-suc ns i 0 k) (ap (λ (j : ℕ). set (sets w₀ at (take i ns)) (at + j) (get_or ns i 0)) (sym n) ∙ sets-snoc (take i ns) (get_or ns i 0) w₀ at)
+    rw (e, add-one, take-suc ns i 0 k) (ap (λ (j : ℕ). set (sets w₀ at (take i ns)) (at + j) (get_or ns i 0)) (sym n) ∙ sets-snoc (take i ns)
+    (get_or ns i 0) w₀ at)
 
 pub loop-i-init : goal.loop-i-init
 loop-i-init c = (search rules, refl, refl)

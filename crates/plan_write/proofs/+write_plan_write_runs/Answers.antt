@@ -72,10 +72,14 @@ write_runs-write_plan-end-requires t c =
     (omega (arith), fit-part c.requires few (omega arith) (omega arith) c.runs_into-k.auto.work)
 
 pub write_runs-overflow_sub-stop : goal.write_runs-overflow_sub-stop
-write_runs-overflow_sub-stop t c = omega (arith, (values-end c.requires c.runs_into-k.ensures _ _ (λ i. (c.slice_known-3-1.given i).fits) c.write_plan-end.ensures).after)
+write_runs-overflow_sub-stop t c =
+    let ended = values-end c.requires c.runs_into-k.ensures _ _ (λ i. (c.slice_known-3-1.given i).fits) c.write_plan-end.ensures in
+    omega (arith, ended.after)
 
 pub write_runs-word_of-requires-2 : goal.write_runs-word_of-requires-2
-write_runs-word_of-requires-2 t c = omega (arith, (values-end c.requires c.runs_into-k.ensures _ _ (λ i. (c.slice_known-3-1.given i).fits) c.write_plan-end.ensures).after, (values-end c.requires c.runs_into-k.ensures _ _ (λ i. (c.slice_known-3-1.given i).fits) c.write_plan-end.ensures).before, c.requires.small)
+write_runs-word_of-requires-2 t c =
+    let ended = values-end c.requires c.runs_into-k.ensures _ _ (λ i. (c.slice_known-3-1.given i).fits) c.write_plan-end.ensures in
+    omega (arith, ended.after, ended.before, c.requires.small)
 
 pub write_runs-overflow_add-first-2 : goal.write_runs-overflow_add-first-2
 write_runs-overflow_add-first-2 t c = omega (arith, c.requires.within)
@@ -84,7 +88,8 @@ pub write_runs-write_plan-requires : goal.write_runs-write_plan-requires
 write_runs-write_plan-requires t c =
     let few = runs_fit c.requires c.runs_into-k.ensures in
     let same = c.write_plan-end.auto.work ∙ c.runs_into-k.auto.work in
-    (omega (arith), fit-part c.requires few (omega arith) (values-end c.requires c.runs_into-k.ensures _ _ (λ i. (c.slice_known-3-1.given i).fits) c.write_plan-end.ensures).before same)
+    let ended = values-end c.requires c.runs_into-k.ensures _ _ (λ i. (c.slice_known-3-1.given i).fits) c.write_plan-end.ensures in
+    (omega arith, fit-part c.requires few (omega arith) ended.before same)
 
 pub write_runs-returns : goal.write_runs-returns
 write_runs-returns t c =

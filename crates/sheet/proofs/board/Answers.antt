@@ -17,8 +17,9 @@ jobs_hold-held-requires c = ap (check c.args.sheet.now) c.check-checked.auto.wor
 
 pub returns-then-not-held : goal.returns-then-not-held
 returns-then-not-held c =
+    let passes = sym c.check-checked.ensures ∙ ap checked_says c.in_default.is in
     let a = c.args in
-    board-broken a.sheet.now (length a.work.now) (sym c.check-checked.ensures ∙ ap checked_says c.in_default.is) (sym c.jobs_hold-held.ensures ∙ c.if-not-held.true)
+    board-broken a.sheet.now (length a.work.now) passes (sym c.jobs_hold-held.ensures ∙ c.if-not-held.true)
 
 pub read_again-n-requires : goal.read_again-n-requires
 read_again-n-requires c =
@@ -30,7 +31,8 @@ read_again-n-requires c =
 
 pub returns : goal.returns
 returns c =
+    let passes = sym c.check-checked.ensures ∙ ap checked_says c.in_default.is in
     let a = c.args in
     c.tally_in.ensures
     ∙ ap endings_told c.read_again-n.ensures.here
-    ∙ board-counted a.sheet.now (length a.work.now) (sym c.check-checked.ensures ∙ ap checked_says c.in_default.is) (sym c.jobs_hold-held.ensures ∙ c.if-not-held.false)
+    ∙ board-counted a.sheet.now (length a.work.now) passes (sym c.jobs_hold-held.ensures ∙ c.if-not-held.false)

@@ -9,21 +9,26 @@ use Rattle.sheet.proofs.lookup.Goals as goal
 
 pub returns-then-count-at : goal.returns-then-count-at
 returns-then-count-at c =
+    let opened = opened-by _ _ _ _ c.column_at-found.ensures c.in-At.is in
     let a = c.args in
-    sym (look-past a.sheet.now a.column a.place.number _ (opened-column (opened-by _ _ _ _ c.column_at-found.ensures c.in-At.is)) c.if-count-at.true)
+    sym (look-past a.sheet.now a.column a.place.number _ (opened-column opened) c.if-count-at.true)
 
 pub overflow_add-to : goal.overflow_add-to
-overflow_add-to c = omega (arith, (opened-by _ _ _ _ c.column_at-found.ensures c.in-At.is).entry.plan_fits)
+overflow_add-to c =
+    let opened = opened-by _ _ _ _ c.column_at-found.ensures c.in-At.is in
+    omega (arith, opened.entry.plan_fits)
 
 pub overflow_add-end : goal.overflow_add-end
-overflow_add-end c = omega (arith, (opened-by _ _ _ _ c.column_at-found.ensures c.in-At.is).entry.body_fits)
+overflow_add-end c =
+    let opened = opened-by _ _ _ _ c.column_at-found.ensures c.in-At.is in
+    omega (arith, opened.entry.body_fits)
 
 pub lookup_list-requires : goal.lookup_list-requires
 lookup_list-requires c =
-    let o = opened-by _ _ _ _ c.column_at-found.ensures c.in-At.is in
+    let opened = opened-by _ _ _ _ c.column_at-found.ensures c.in-At.is in
     record {
-      short = body-short c.args.sheet.now c.in-At.entry (sheet-short o.entry (opened-here o));
-      few = count-few o.entry (opened-here o);
+      short = body-short c.args.sheet.now c.in-At.entry (sheet-short opened.entry (opened-here opened));
+      few = count-few opened.entry (opened-here opened);
       inside = c.if-count-at.false;
     }
 
@@ -34,13 +39,18 @@ returns-in-Refused c =
 
 pub returns-else-count-at : goal.returns-else-count-at
 returns-else-count-at c =
+    let opened = opened-by _ _ _ _ c.column_at-found.ensures c.in-At.is in
     let a = c.args in
     c.lookup_list.ensures
     ∙ of-column a.sheet.now c.in-At.entry (λ p b n. look p b n a.place.number)
-    ∙ sym (look-there a.sheet.now a.column a.place.number _ (opened-column (opened-by _ _ _ _ c.column_at-found.ensures c.in-At.is)) c.if-count-at.false)
+    ∙ sym (look-there a.sheet.now a.column a.place.number _ (opened-column opened) c.if-count-at.false)
 
 pub slice_bounds-lookup_list-end : goal.slice_bounds-lookup_list-end
-slice_bounds-lookup_list-end c = omega (arith, (opened-by _ _ _ _ c.column_at-found.ensures c.in-At.is).entry.plan_fits)
+slice_bounds-lookup_list-end c =
+    let opened = opened-by _ _ _ _ c.column_at-found.ensures c.in-At.is in
+    omega (arith, opened.entry.plan_fits)
 
 pub slice_bounds-lookup_list-end-in-At : goal.slice_bounds-lookup_list-end-in-At
-slice_bounds-lookup_list-end-in-At c = omega (arith, (opened-by _ _ _ _ c.column_at-found.ensures c.in-At.is).entry.body_fits)
+slice_bounds-lookup_list-end-in-At c =
+    let opened = opened-by _ _ _ _ c.column_at-found.ensures c.in-At.is in
+    omega (arith, opened.entry.body_fits)

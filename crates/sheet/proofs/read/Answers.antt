@@ -7,23 +7,28 @@ use Rattle.sheet.proofs.read.Goals as goal
 
 pub overflow_mul-needed : goal.overflow_mul-needed
 overflow_mul-needed c =
-    let o = opened-by _ _ _ _ c.column_at-found.ensures c.in-At.is in
-    omega (arith, count-few o.entry (opened-here o))
+    let opened = opened-by _ _ _ _ c.column_at-found.ensures c.in-At.is in
+    omega (arith, count-few opened.entry (opened-here opened))
 
 pub returns-then-work-needed : goal.returns-then-work-needed
-returns-then-work-needed c = says-short (opened-by _ _ _ _ c.column_at-found.ensures c.in-At.is) c.args.work.now c.args.out.now c.if-work-needed.true
+returns-then-work-needed c =
+    let opened = opened-by _ _ _ _ c.column_at-found.ensures c.in-At.is in
+    says-short opened c.args.work.now c.args.out.now c.if-work-needed.true
 
 pub returns-then-out-count : goal.returns-then-out-count
-returns-then-out-count c = says-full (opened-by _ _ _ _ c.column_at-found.ensures c.in-At.is) c.args.work.now c.args.out.now c.if-work-needed.false c.if-out-count.true
+returns-then-out-count c =
+    let opened = opened-by _ _ _ _ c.column_at-found.ensures c.in-At.is in
+    says-full opened c.args.work.now c.args.out.now c.if-work-needed.false c.if-out-count.true
 
 pub read_column-got-requires : goal.read_column-got-requires
 read_column-got-requires c =
-    let o = opened-by _ _ _ _ c.column_at-found.ensures c.in-At.is in
-    readable o.entry (opened-here o) c.if-work-needed.false
+    let opened = opened-by _ _ _ _ c.column_at-found.ensures c.in-At.is in
+    readable opened.entry (opened-here opened) c.if-work-needed.false
 
 pub copy_list-requires : goal.copy_list-requires
 copy_list-requires c =
-    copy-room (opened-by _ _ _ _ c.column_at-found.ensures c.in-At.is) c.args.work.now c.args.out.now c.if-work-needed.false c.if-out-count.false c.read_column-got.ensures
+    let opened = opened-by _ _ _ _ c.column_at-found.ensures c.in-At.is in
+    copy-room opened c.args.work.now c.args.out.now c.if-work-needed.false c.if-out-count.false c.read_column-got.ensures
     c.in-Whole.is (λ i. (c.type_inv.sheet i).fits)
 
 pub returns-in-Refused : goal.returns-in-Refused
@@ -33,10 +38,12 @@ returns-in-Refused c =
 
 pub returns-in-Refused-got : goal.returns-in-Refused-got
 returns-in-Refused-got c =
-    says-fault (opened-by _ _ _ _ c.column_at-found.ensures c.in-At.is) c.args.work.now c.args.out.now c.if-work-needed.false c.if-out-count.false c.read_column-got.ensures
+    let opened = opened-by _ _ _ _ c.column_at-found.ensures c.in-At.is in
+    says-fault opened c.args.work.now c.args.out.now c.if-work-needed.false c.if-out-count.false c.read_column-got.ensures
     c.in-Refused-got.is
 
 pub returns-in-Whole : goal.returns-in-Whole
 returns-in-Whole c =
-    says-copied (opened-by _ _ _ _ c.column_at-found.ensures c.in-At.is) c.args.work.now c.args.out.now c.if-work-needed.false c.if-out-count.false c.read_column-got.ensures
+    let opened = opened-by _ _ _ _ c.column_at-found.ensures c.in-At.is in
+    says-copied opened c.args.work.now c.args.out.now c.if-work-needed.false c.if-out-count.false c.read_column-got.ensures
     c.in-Whole.is (λ i. (c.type_inv.sheet i).fits) c.copy_list.ensures

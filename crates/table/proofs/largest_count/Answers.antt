@@ -13,7 +13,8 @@ loop-k-init c = largest-first c.requires c.column_count-columns.ensures.0
 
 pub loop-k-preserved : goal.loop-k-preserved
 loop-k-preserved c =
-    largest-turn c.loop-k.invariant c.loop-k-test.true c.count_at-count.ensures (elim c.if-most-count.branch [ then-most-count w ↦ omega arith | else-most-count w ↦ omega arith ])
+    largest-turn c.loop-k.invariant c.loop-k-test.true c.count_at-count.ensures
+    (elim c.if-most-count.branch [ then-most-count w ↦ omega arith | else-most-count w ↦ omega arith ])
 
 pub returns : goal.returns
 returns c = largest-end c.loop-k.invariant c.loop-k-test.false

@@ -9,7 +9,9 @@ use Rattle.codes.specs.Firsts.{total}
 use Rattle.codes.proofs.directly.total_direct.Given as goal
 
 abbrev pub invariant-loop-number : goal.invariant-loop-number
-invariant-loop-number l = (total (look_direct l.body) l.number ≡ given l.s) × (l.s ≤ l.number * 2 ^ 32) × (l.number ≤ l.goal + 1) × (l.goal < most_numbers) × (length l.body ≤ most_bytes)
+invariant-loop-number l =
+    (total (look_direct l.body) l.number ≡ given l.s) × (l.s ≤ l.number * 2 ^ 32) × (l.number ≤ l.goal + 1) × (l.goal < most_numbers) ×
+    (length l.body ≤ most_bytes)
 
 abbrev pub decreases-loop-number : goal.decreases-loop-number
 decreases-loop-number l = l.goal + 1 - l.number

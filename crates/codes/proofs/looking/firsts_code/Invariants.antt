@@ -7,7 +7,9 @@ use Rattle.codes.proofs.Lookings.{Laid}
 use Rattle.codes.proofs.looking.firsts_code.Given as goal
 
 abbrev pub invariant-loop-passed : goal.invariant-loop-passed
-invariant-loop-passed l = (l.passed < l.k → Looking l.code l.body l.n l.passed l.at) × Laid (look_code (code_of l.code) l.body l.n) l.to l.initial.work l.work l.passed × (l.passed ≤ l.k) × Space l.body l.n l.k l.initial.work l.to
+invariant-loop-passed l =
+    (l.passed < l.k → Looking l.code l.body l.n l.passed l.at) × Laid (look_code (code_of l.code) l.body l.n) l.to l.initial.work l.work l.passed ×
+    (l.passed ≤ l.k) × Space l.body l.n l.k l.initial.work l.to
 
 abbrev pub decreases-loop-passed : goal.decreases-loop-passed
 decreases-loop-passed l = l.k - l.passed

@@ -10,7 +10,9 @@ use Rattle.codes.proofs.Lookings.{Looking}
 use Rattle.codes.proofs.looking.total_code.Given as goal
 
 abbrev pub invariant-loop-taken : goal.invariant-loop-taken
-invariant-loop-taken l = Looking l.code l.body l.n l.passed l.at × (l.passed ≤ l.goal) × (l.goal < l.n) × (l.n ≤ most_numbers) × (length l.numbers ≡ 192) × (1 ≤ l.most) × (l.most ≤ unit_places)
+invariant-loop-taken l =
+    Looking l.code l.body l.n l.passed l.at × (l.passed ≤ l.goal) × (l.goal < l.n) × (l.n ≤ most_numbers) × (length l.numbers ≡ 192) × (1 ≤ l.most) ×
+    (l.most ≤ unit_places)
     × (total (look_code (code_of l.code) l.body l.n) l.passed ≡ given l.s) × (l.s ≤ l.passed * 2 ^ 32)
 
 abbrev pub decreases-loop-taken : goal.decreases-loop-taken

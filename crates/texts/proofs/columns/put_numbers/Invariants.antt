@@ -6,7 +6,8 @@ use Rattle.texts.proofs.Putting.{Turning}
 use Rattle.texts.proofs.columns.put_numbers.Given as goal
 
 abbrev pub invariant-loop-i : goal.invariant-loop-i
-invariant-loop-i l = Turning (length l.list) 16 (counting number_line 0 l.list) l.initial.to.byte l.initial.out (counting number_line l.i (drop l.i l.list)) l.out l.to.byte l.i
+invariant-loop-i l =
+    Turning (length l.list) 16 (counting number_line 0 l.list) l.initial.to.byte l.initial.out (counting number_line l.i (drop l.i l.list)) l.out l.to.byte l.i
 
 abbrev pub decreases-loop-i : goal.decreases-loop-i
 decreases-loop-i l = length l.list - l.i

@@ -8,7 +8,8 @@ use Rattle.texts.proofs.Putting.{Turning}
 use Rattle.texts.proofs.columns.put_smalls.Given as goal
 
 abbrev pub invariant-loop-i : goal.invariant-loop-i
-invariant-loop-i l = Turning (length l.bytes) 21 (words (map digits l.bytes)) l.initial.to.byte l.initial.out (words (map digits (drop l.i l.bytes))) l.out l.to.byte l.i
+invariant-loop-i l =
+    Turning (length l.bytes) 21 (words (map digits l.bytes)) l.initial.to.byte l.initial.out (words (map digits (drop l.i l.bytes))) l.out l.to.byte l.i
 
 abbrev pub decreases-loop-i : goal.decreases-loop-i
 decreases-loop-i l = length l.bytes - l.i
