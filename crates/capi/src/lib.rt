@@ -182,7 +182,7 @@ pub extern "C" fn pelluvion_board(
     unended: &mut usize,
 ) -> u32
     ensures { Tallies (count_board sheet.now (length work.old)) result column.new
-        (record { passed = passed.exit.now; failed = failed.new; killed = killed.new; unended = unended.new }) }
+        (record { passed = passed.new; failed = failed.new; killed = killed.new; unended = unended.new }) }
 {
     let counted = board(sheet, work);
     match counted {

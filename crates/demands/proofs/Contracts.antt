@@ -1,4 +1,4 @@
--- The contracts of specs/Contracts.antt are those that are proved of the functions: each asks nothing of its caller and ensures that fact. Assumes nothing.
+-- The contracts of specs/Promises.antt are those that are proved of the functions: each asks nothing of its caller and ensures that fact. Assumes nothing.
 use mathlib.Core.Path.{◌≡◌, refl}
 use mathlib.Core.List.{map}
 use base.Logic.{SProp}

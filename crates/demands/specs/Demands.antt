@@ -2,7 +2,7 @@
 -- Read `(x : A) → B` for every x of A, B; `A → B` if A then B; `A × B` both; `a ≡ b` equal; `λ x. e` e as a function of x; `a.0`, `a.1` the parts of a pair.
 -- Lists: `get_or xs i 0` is element i, `take n xs` the first n, `drop n xs` those after them, `xs ++ ys` one after the other, `x ∷ xs` x and then
 -- xs, `[]` none.
--- What an operation may answer is what meets its contract, the equations of its `ensures` (specs/Contracts.antt): they define the answer by document 01, whose
+-- What an operation may answer is what meets its contract, the equations of its `ensures` (specs/Promises.antt): they define the answer by document 01, whose
 -- words are in crates/meaning/specs. r is the answer, o what the output held, o' what it holds afterwards, k a column, e a refusal's number, 0 for none:
 --     Judges kind plan r                     judge::judge       Sizes plan n r           judge::worst_size     Checks sheet work r         sheet::check
 --     Reads sheet k work o (r, o')           sheet::read        Looks sheet k place r    sheet::lookup         Counts sheet work r         sheet::board
