@@ -1,6 +1,7 @@
 -- Writing by a plan: what the callees ensure is handed to the law of its stage. Assumes nothing.
 use mathlib.Core.Path.{sym, ◌∙◌}
 use native.Mathlib.Omega.{arith}
+use borrow.Author.Rules.{rules}
 use Rattle.meaning.specs.Plan.{Plan, plan_at}
 use Rattle.judge.proofs.PlanLaws.{at-bad, at_code, at-reference, at-differences, at-runs, second}
 use Rattle.plan_write.proofs.Steps.{fit-list, fit-code, fit-more, fit-inner, fit-runs, fit-three, fit-part, runs_fit, values-end}
@@ -61,44 +62,6 @@ write_plan-returns-in-Runs t c =
     let is = at-runs _ _ _ _ _ (sym c.stage_at.ensures ∙ c.in-Runs.is) in
     written-stage is.0 c.write_runs.ensures
 
--- ---- write_runs
-
-pub write_runs-word_of-requires : goal.write_runs-word_of-requires
-write_runs-word_of-requires t c = omega (arith, runs_fit c.requires c.runs_into-k.ensures, c.requires.few)
-
-pub write_runs-write_plan-end-requires : goal.write_runs-write_plan-end-requires
-write_runs-write_plan-end-requires t c =
-    let few = runs_fit c.requires c.runs_into-k.ensures in
-    (omega (arith), fit-part c.requires few (omega arith) (omega arith) c.runs_into-k.auto.work)
-
-pub write_runs-overflow_sub-stop : goal.write_runs-overflow_sub-stop
-write_runs-overflow_sub-stop t c =
-    let ended = values-end c.requires c.runs_into-k.ensures _ _ (λ i. (c.slice_known-3-1.given i).fits) c.write_plan-end.ensures in
-    omega (arith, ended.after)
-
-pub write_runs-word_of-requires-2 : goal.write_runs-word_of-requires-2
-write_runs-word_of-requires-2 t c =
-    let ended = values-end c.requires c.runs_into-k.ensures _ _ (λ i. (c.slice_known-3-1.given i).fits) c.write_plan-end.ensures in
-    omega (arith, ended.after, ended.before, c.requires.small)
-
-pub write_runs-overflow_add-first-2 : goal.write_runs-overflow_add-first-2
-write_runs-overflow_add-first-2 t c = omega (arith, c.requires.within)
-
-pub write_runs-write_plan-requires : goal.write_runs-write_plan-requires
-write_runs-write_plan-requires t c =
-    let few = runs_fit c.requires c.runs_into-k.ensures in
-    let same = c.write_plan-end.auto.work ∙ c.runs_into-k.auto.work in
-    let ended = values-end c.requires c.runs_into-k.ensures _ _ (λ i. (c.slice_known-3-1.given i).fits) c.write_plan-end.ensures in
-    (omega arith, fit-part c.requires few (omega arith) ended.before same)
-
-pub write_runs-returns : goal.write_runs-returns
-write_runs-returns t c =
-    let a = c.args in
-    written-runs c.requires c.runs_into-k.ensures {p = plan_at a.stages a.plan.now a.pos.byte}
-    (second (λ (q : Plan). q) _ _ _ _ c.plan_end-second.ensures)
-    c.word_of.ensures c.put_word.ensures c.write_plan-end.ensures
-    c.word_of-2.ensures c.put_word-2.ensures c.write_plan.ensures
-
 pub write_plan-least_of-m-requires : goal.write_plan-least_of-m-requires
 write_plan-least_of-m-requires t c = fit-list c.requires
 
@@ -113,6 +76,44 @@ write_plan-overflow_add-start t c = omega (arith, c.requires.below)
 
 pub write_plan-overflow_add-first-in-Differences : goal.write_plan-overflow_add-first-in-Differences
 write_plan-overflow_add-first-in-Differences t c = omega (arith, fit-list c.requires)
+
+-- ---- write_runs
+
+pub write_runs-word_of-requires : goal.write_runs-word_of-requires
+write_runs-word_of-requires t c = omega (arith, runs_fit c.requires c.runs_into-k.ensures, c.requires.few)
+
+pub write_runs-write_plan-end-requires : goal.write_runs-write_plan-end-requires
+write_runs-write_plan-end-requires t c =
+    let few = runs_fit c.requires c.runs_into-k.ensures in
+    (omega (arith), fit-part c.requires few (omega arith) (omega arith) c.runs_into-k.auto.work)
+
+pub write_runs-overflow_sub-stop : goal.write_runs-overflow_sub-stop
+write_runs-overflow_sub-stop t c =
+    let ended = values-end c.requires c.runs_into-k.ensures _ _ (λ i. search rules) c.write_plan-end.ensures in
+    omega (arith, ended.after)
+
+pub write_runs-word_of-requires-2 : goal.write_runs-word_of-requires-2
+write_runs-word_of-requires-2 t c =
+    let ended = values-end c.requires c.runs_into-k.ensures _ _ (λ i. search rules) c.write_plan-end.ensures in
+    omega (arith, ended.after, ended.before, c.requires.small)
+
+pub write_runs-overflow_add-first-2 : goal.write_runs-overflow_add-first-2
+write_runs-overflow_add-first-2 t c = omega (arith, c.requires.within)
+
+pub write_runs-write_plan-requires : goal.write_runs-write_plan-requires
+write_runs-write_plan-requires t c =
+    let few = runs_fit c.requires c.runs_into-k.ensures in
+    let same = c.write_plan-end.auto.work ∙ c.runs_into-k.auto.work in
+    let ended = values-end c.requires c.runs_into-k.ensures _ _ (λ i. search rules) c.write_plan-end.ensures in
+    (omega arith, fit-part c.requires few (omega arith) ended.before same)
+
+pub write_runs-returns : goal.write_runs-returns
+write_runs-returns t c =
+    let a = c.args in
+    written-runs c.requires c.runs_into-k.ensures {p = plan_at a.stages a.plan.now a.pos.byte}
+    (second (λ (q : Plan). q) _ _ _ _ c.plan_end-second.ensures)
+    c.word_of.ensures c.put_word.ensures c.write_plan-end.ensures
+    c.word_of-2.ensures c.put_word-2.ensures c.write_plan.ensures
 
 pub write_runs-runs_into-k-requires : goal.write_runs-runs_into-k-requires
 write_runs-runs_into-k-requires t c = (fit-three c.requires, omega (arith, c.requires.few))
