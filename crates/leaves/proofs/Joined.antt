@@ -1,5 +1,5 @@
 -- Lists joined from their elements' lists, sums, and tests of all elements. Assumes nothing.
-use Prim.Native.Nat.{ℕ, zero, suc, ◌+◌, ◌<◌}
+use Prim.Native.Nat.{ℕ, zero, suc, ◌+◌, ◌<◌, ◌≤◌}
 use mathlib.Core.Path.{◌≡◌, refl, sym, ap}
 use mathlib.Core.Bool.{true}
 use mathlib.Core.List.{List, [], ◌∷◌, ◌++◌, append_assoc, append-nil, map}
@@ -7,8 +7,8 @@ use native.Mathlib.Nat.{add_assoc}
 use native.Mathlib.Numerals.{add-one}
 use native.Mathlib.Omega.{arith}
 use lib.Dec.{eqb}
-use lib.ListN.{length, get_or, take, replicate}
-use lib.Seq.{take-suc}
+use lib.ListN.{length, get_or, take, drop, replicate, drop_of_length-le}
+use lib.Seq.{take-suc, drop-cons}
 use borrow.Author.Tests.{eqb-true}
 use Rattle.meaning.specs.Lists.{all, sum, joined}
 use Rattle.meaning.proofs.Tests.{both_true}
@@ -27,6 +27,16 @@ module _ {A B : Type 0} (f : A → List B) where
   pub joined-next : (xs : List A) (d : A) (i : ℕ) → i < length xs → joined f (take (i + 1) xs) ≡ joined f (take i xs) ++ f (get_or xs i d)
   joined-next xs d i h = rw (add-one, take-suc xs i d h, joined-append (take i xs))
       (ap (λ (l : List B). joined f (take i xs) ++ l) (joined-one (get_or xs i d)))
+
+  -- from an element on
+  pub joined-rest : (xs : List A) (d : A) (i : ℕ) → i < length xs → joined f (drop i xs) ≡ f (get_or xs i d) ++ joined f (drop (i + 1) xs)
+  unfolding joined
+  joined-rest xs d i h = rw (add-one, drop-cons xs i d h) refl
+
+  -- past the last
+  pub joined-past : (xs : List A) (i : ℕ) → length xs ≤ i → joined f (drop i xs) ≡ []
+  unfolding joined
+  joined-past xs i h = rw (drop_of_length-le xs h) refl
 
 -- of elements that were made of others
 pub joined-map : {A B C : Type 0} (f : B → List C) (g : A → B) (xs : List A) → joined f (map g xs) ≡ joined (λ x. f (g x)) xs

@@ -6,15 +6,14 @@ ghost use Rattle.std.proofs.lemmas.List.Edits.{sets};
 ghost use Rattle.meaning.specs.Limits.{unit_places};
 ghost use Rattle.meaning.specs.Places.{Ends};
 ghost use Rattle.meaning.specs.Positions.{at_byte, at_bit};
-ghost use Rattle.meaning.specs.Says.{unit_refusal};
 
-use meaning::{Bit, Offset, Place, Position, Taken, Unit};
+use meaning::{Bit, Offset, Place, Position, Taken};
 
 // A byte as a number: that it is below 256 is then known wherever it goes.
 pub fn wide(x: u8) -> u32
     ensures { (result ≡ x) × (result < 256) }
 {
-    x as u32
+    u32::from(x)
 }
 
 // A number that counts: that it is below 2^32 is then known.
@@ -28,7 +27,7 @@ pub fn whole(x: u32) -> usize
 pub fn long(x: u32) -> u64
     ensures { (result ≡ x) × (result < 2 ^ 32) }
 {
-    x as u64
+    u64::from(x)
 }
 
 // A number known to be below 2^32, as one.
@@ -51,10 +50,7 @@ pub fn byte_of(x: usize) -> u8
 pub fn lesser(a: usize, b: usize) -> usize
     ensures { result ≡ min a b }
 {
-    if a < b {
-        return a;
-    }
-    b
+    a.min(b)
 }
 
 // A byte is put at an offset of an output; past its end nothing is put.
@@ -73,11 +69,7 @@ pub fn lay(work: &mut [u32], from: Place, numbers: [u32; 16], k: usize)
     ensures { work.new ≡ sets work.old from.number (take k numbers) }
 {
     let first = from.number;
-    let mut i: usize = 0;
-    while i < k {
-        work[first + i] = numbers[i];
-        i += 1;
-    }
+    work[first..first + k].copy_from_slice(&numbers[..k]);
 }
 
 // A position that is an offset alone.
@@ -102,29 +94,12 @@ pub fn from_bit(bit: Bit) -> Position
     }
 }
 
-// The number of a unit's refusal, 0 where it is none.
-pub fn refusal_of(u: Unit) -> u8
-    ensures { result ≡ unit_refusal u }
-{
-    match u {
-        Unit::Next(_, _) => 0,
-        Unit::Refused(e) => e,
-    }
-}
-
 // So many numbers of so many units were taken from a position on, the last left so many bytes spare, and the next unit begins at another position;
 // where none was taken, the position stays.
 pub fn taken(at: Position, count: usize, units: usize, spare: usize, next: Position) -> Taken
     ensures { Ends at count units spare next result }
 {
-    if count == 0 {
-        return Taken {
-            count,
-            units,
-            next: at,
-            spare,
-        };
-    }
+    let next = if count == 0 { at } else { next };
     Taken {
         count,
         units,

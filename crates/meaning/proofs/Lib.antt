@@ -4,6 +4,7 @@ pub mod Tests
 pub mod Bounds
 pub mod Stores
 pub mod Ranks
+pub mod Same
 pub mod Units
 pub mod Loops
 pub mod Lasting

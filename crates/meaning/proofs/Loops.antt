@@ -5,13 +5,15 @@ use mathlib.Core.Bool.{Bool, true, false}
 use mathlib.Core.List.{List, [], ◌++◌, append_assoc, append-nil}
 use native.Mathlib.Nat.{sub-zero}
 use native.Mathlib.Omega.{arith}
+use Rattle.std.specs.Prelude.{Ok, Err}
 use lib.ListN.{length, get_or, take, length-append}
 use lib.Seq.{sets, length-sets}
 use Rattle.meaning.specs.Answer.{Answer, given, refused, need, amount}
 use Rattle.meaning.specs.Limits.{broken}
 use Rattle.meaning.specs.Places.{part, Got}
 use Rattle.meaning.specs.Units.{read_units, look_units}
-use Rattle.meaning.specs.declared.Reading.TheVariants.{Whole, Refused}
+use Rattle.meaning.specs.Says.{refusal_number}
+use Rattle.meaning.specs.declared.Refusal.{Refusal}
 use Rattle.meaning.proofs.Answers.{not-given}
 use Rattle.meaning.proofs.Stores.{part-more, take-sets}
 use Rattle.meaning.proofs.Units.{Good, join, read_none, read-refused, read-apart, read_next, look-refused, look-here, look-next}
@@ -86,11 +88,11 @@ module _ {P : Type 0} (unit : ℕ → P → Answer (P × List ℕ)) (joins : Lis
     -- ---- what the loop answers, of any answer a that is the reading
     module _ (a : Answer (List ℕ)) (is : a ≡ read_units unit joins done n [] p₀) where
       -- a refusal was handed on
-      pub got-refused : (z : ℕ) → a ≡ refused z → Got a from w₀ w (Refused z)
-      got-refused z e = record { told = ap amount (sym e); here = λ xs q. absurd (not-given z xs (sym e ∙ q)); kept = so.kept }
+      pub got-refused : (z : Refusal) → a ≡ refused (refusal_number z) → Got a from w₀ w (Err z)
+      got-refused z e = record { told = ap amount (sym e); here = λ xs q. absurd (not-given (refusal_number z) xs (sym e ∙ q)); kept = so.kept }
 
       -- all is read, and nothing is left over
-      pub got-whole : n ≤ i → done p ≡ true → Got a from w₀ w (Whole n)
+      pub got-whole : n ≤ i → done p ≡ true → Got a from w₀ w (Ok n)
       got-whole h d =
           let all : i ≡ n = omega (arith, so.most) in
           let e : a ≡ given so.sofar = is ∙ read-end h ∙ rw d in

@@ -1,4 +1,5 @@
 -- Runs of stores, `sets l a vs`: what is stored past the end is dropped, so none of these asks for room but where a part is read back. Assumes nothing.
+use borrow.Rule.Slice.PartMut.{put_mid}
 use mathlib.Core.Path.{◌≡◌, refl, sym, ap, ap₂, ◌∙◌}
 use Prim.Native.Nat.{ℕ, zero, suc, ◌+◌, ◌≤◌, ◌<◌}
 use native.Mathlib.Nat.{add-zero, add-suc, suc-add}
@@ -71,3 +72,9 @@ module _ {A : Type 0} where
       take-add i (length ys) (drop from w')
       ∙ ap₂ ◌++◌ (part_same w' w from i (from + i) (omega arith) (take-sets ys w (from + i) (from + i) (omega arith)))
       (ap (take (length ys)) (drop-drop i from w') ∙ part-sets ys w (from + i) h)
+
+-- what a write to the part of a slice from a place on leaves in the whole
+pub mid-sets : {A : Type 0} (xs ys : List A) (a k : ℕ) → length ys ≡ k → a + k ≤ length xs → put_mid a k xs ys ≡ sets xs a ys
+mid-sets xs ys a k n h =
+    let e : drop k (drop a xs) ≡ drop (a + length ys) xs = rw n (drop-drop k a xs) in
+    rw (e, ← append_assoc) (sym (sets-eq ys xs a (omega arith)))

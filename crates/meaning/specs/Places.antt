@@ -1,16 +1,16 @@
 -- What contracts say of slices: bounds on their elements, and what a reading leaves in the work slice.
-use Rattle.std.specs.Prelude.{ℕ, ◌+◌, ◌-◌, ◌*◌, ◌^◌, ◌<◌, ◌≤◌, ◌≡◌, Bool, List, ltb, length, get_or, take, drop, replicate}
+use Rattle.std.specs.Prelude.{ℕ, ◌+◌, ◌-◌, ◌*◌, ◌^◌, ◌<◌, ◌≤◌, ◌≡◌, Bool, List, ltb, length, get_or, take, drop, replicate, Result, Ok}
 use Rattle.std.proofs.lemmas.List.Edits.{sets}
 use Rattle.meaning.specs.Answer.{Answer, given, amount}
 use Rattle.meaning.specs.Codes.{Code}
 use Rattle.meaning.specs.DataBytes.{byte_length}
 use Rattle.meaning.specs.Limits.{most_bytes, unit_places}
 use Rattle.meaning.specs.Units.{Stretch}
-use Rattle.meaning.specs.Says.{unit_says, unit_count, reading_says}
+use Rattle.meaning.specs.Says.{says, says_by, unit_told}
 use Rattle.meaning.specs.declared.Offset.{Offset}
 use Rattle.meaning.specs.declared.Position.{Position}
+use Rattle.meaning.specs.declared.Refusal.{Refusal}
 use Rattle.meaning.specs.declared.UnitRead.{UnitRead}
-use Rattle.meaning.specs.declared.Reading.{Reading}
 use Rattle.meaning.specs.declared.Taken.{Taken}
 
 -- every element is below m; past the end `get_or` gives 0
@@ -22,10 +22,10 @@ abbrev pub part : List ℕ → ℕ → ℕ → List ℕ
 part xs from n = take n (drop from xs)
 
 -- r is a unit's answer: what it says is what is to be said, its numbers are in the array, and the places after them are 0
-pub record UnitIs (a : Answer (Position × List ℕ)) (r : UnitRead) : Type 0 where
-  pub told : unit_says r.unit r.numbers ≡ a
-  pub few : unit_count r.unit ≤ unit_places
-  pub clear : drop (unit_count r.unit) r.numbers ≡ replicate (unit_places - unit_count r.unit) 0
+pub record UnitIs (a : Answer (Position × List ℕ)) (r : Result UnitRead Refusal) : Type 0 where
+  pub told : says_by unit_told r ≡ a
+  pub few : (u : UnitRead) → r ≡ Ok u → u.count ≤ unit_places
+  pub clear : (u : UnitRead) → r ≡ Ok u → drop u.count u.numbers ≡ replicate (unit_places - u.count) 0
 
 -- bytes stand in an output from an offset on, as far as they lie within it, and r is where they end
 pub record Wrote (bytes : List ℕ) (at : ℕ) (out out' : List ℕ) (r : Offset) : Type 0 where
@@ -33,15 +33,14 @@ pub record Wrote (bytes : List ℕ) (at : ℕ) (out out' : List ℕ) (r : Offset
   pub here : out' ≡ sets out at bytes
 
 -- a list was read into work from a place on: r says how many numbers or the refusal; what stands before the place is kept
-pub record Got (a : Answer (List ℕ)) (from : ℕ) (work work' : List ℕ) (r : Reading) : Type 0 where
-  pub told : reading_says r ≡ amount a
+pub record Got (a : Answer (List ℕ)) (from : ℕ) (work work' : List ℕ) (r : Result ℕ Refusal) : Type 0 where
+  pub told : says r ≡ amount a
   pub here : (xs : List ℕ) → a ≡ given xs → part work' from (length xs) ≡ xs
   pub kept : take from work' ≡ take from work
 
--- what writing asks: the list stands in the slice, and no offset passes the largest number
-pub record Source (list : List ℕ) (from n at : ℕ) : Type 0 where
-  pub inside : from + n ≤ length list
-  pub short : at + 9 * n + 4 < 2 ^ 63
+-- what writing a list asks: no offset passes the largest number
+pub record Source (list : List ℕ) (at : ℕ) : Type 0 where
+  pub short : at + 9 * length list + 4 < 2 ^ 63
 
 -- what reading asks: work has room for the list, and the body is no longer than a sheet
 pub record Target (body work : List ℕ) (from n : ℕ) : Type 0 where

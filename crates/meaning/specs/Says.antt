@@ -1,71 +1,57 @@
--- What each answer of the source says: the document's number, and its values.
-use Rattle.std.specs.Prelude.{ℕ, List, take}
+-- What the source's answers say, in the document's numbers.
+use Rattle.std.specs.Prelude.{ℕ, List, take, Result, Ok, Err}
 use Rattle.meaning.specs.Answer.{Answer, given, refused, Verdict, passed, blamed}
+use Rattle.meaning.specs.Limits.{no_sheet, bad_table, bad_plan, unfit_plan, no_column, no_place, no_room, short_work, cut_short, fallen}
+use Rattle.meaning.specs.Limits.{bad_orders, bad_board, broken}
 use Rattle.meaning.specs.Operations.{no_tally}
+use Rattle.meaning.specs.declared.Bit.{Bit}
+use Rattle.meaning.specs.declared.Fault.{Fault}
 use Rattle.meaning.specs.declared.Position.{Position}
-use Rattle.meaning.specs.declared.Unit.{Unit as UnitTold}
-use Rattle.meaning.specs.declared.Unit.TheVariants as unit
-use Rattle.meaning.specs.declared.Judged.{Judged}
-use Rattle.meaning.specs.declared.Judged.TheVariants as judged
-use Rattle.meaning.specs.declared.Sized.{Sized}
-use Rattle.meaning.specs.declared.Sized.TheVariants as sized
-use Rattle.meaning.specs.declared.Reading.{Reading}
-use Rattle.meaning.specs.declared.Reading.TheVariants as reading
-use Rattle.meaning.specs.declared.Found.{Found}
-use Rattle.meaning.specs.declared.Found.TheVariants as found
-use Rattle.meaning.specs.declared.Checked.{Checked}
-use Rattle.meaning.specs.declared.Checked.TheVariants as checked
+use Rattle.meaning.specs.declared.Refusal.{Refusal}
+use Rattle.meaning.specs.declared.Refusal.TheVariants as refusal
 use Rattle.meaning.specs.declared.Tally.{Tally}
-use Rattle.meaning.specs.declared.Counted.{Counted}
-use Rattle.meaning.specs.declared.Counted.TheVariants as counted
-use Rattle.meaning.specs.declared.Ranked.{Ranked}
-use Rattle.meaning.specs.declared.Ranked.TheVariants as ranked
-use Rattle.meaning.specs.declared.Selected.{Selected}
-use Rattle.meaning.specs.declared.Selected.TheVariants as selected
+use Rattle.meaning.specs.declared.UnitRead.{UnitRead}
 
--- a unit: where the next begins, and the numbers that stand beside
-abbrev pub unit_says : UnitTold → List ℕ → Answer (Position × List ℕ)
-unit_says (unit.Next p k) numbers = given (p, take k numbers)
-unit_says (unit.Refused e) numbers = refused e
+-- each refusal's number
+abbrev pub refusal_number : Refusal → ℕ
+refusal_number refusal.NoSheet = no_sheet
+refusal_number refusal.BadTable = bad_table
+refusal_number refusal.Malformed = bad_plan
+refusal_number refusal.Unfit = unfit_plan
+refusal_number refusal.NoColumn = no_column
+refusal_number refusal.NoPlace = no_place
+refusal_number refusal.NoRoom = no_room
+refusal_number refusal.ShortWork = short_work
+refusal_number refusal.CutShort = cut_short
+refusal_number refusal.Falls = fallen
+refusal_number refusal.BadOrders = bad_orders
+refusal_number refusal.BadBoard = bad_board
+refusal_number refusal.Broken = broken
 
-abbrev pub unit_count : UnitTold → ℕ
-unit_count (unit.Next p k) = k
-unit_count (unit.Refused e) = 0
+-- what is given, or the number of the refusal
+abbrev pub says : {A : Type 0} → Result A Refusal → Answer A
+says (Ok x) = given x
+says (Err e) = refused (refusal_number e)
 
--- the number of its refusal; accepted is number 0
-abbrev pub unit_refusal : UnitTold → ℕ
-unit_refusal (unit.Next p k) = 0
-unit_refusal (unit.Refused e) = e
+-- the same, where what is given is told by what it holds
+abbrev pub says_by : {A B : Type 0} → (A → B) → Result A Refusal → Answer B
+says_by f (Ok x) = given (f x)
+says_by f (Err e) = refused (refusal_number e)
 
-abbrev pub judged_says : Judged → Answer (Unit {0})
-judged_says judged.Passed = given tt
-judged_says (judged.Refused e) = refused e
+-- a unit: where the next begins, and the numbers
+abbrev pub unit_told : UnitRead → Position × List ℕ
+unit_told u = (u.next, take u.count u.numbers)
 
-abbrev pub sized_says : Sized → Answer ℕ
-sized_says (sized.Bytes n) = given n
-sized_says (sized.Refused e) = refused e
+-- rank and select count bits by their index
+abbrev pub bit_told : Bit → ℕ
+bit_told b = b.index
 
-abbrev pub reading_says : Reading → Answer ℕ
-reading_says (reading.Whole n) = given n
-reading_says (reading.Refused e) = refused e
-
-abbrev pub found_says : Found → Answer ℕ
-found_says (found.Number x) = given x
-found_says (found.Refused e) = refused e
-
-abbrev pub checked_says : Checked → Verdict
-checked_says checked.Passed = passed
-checked_says (checked.Refused e k) = blamed e k
+-- a check passes, or blames a column
+abbrev pub verdict_says : {A : Type 0} → Result A Fault → Verdict
+verdict_says (Ok x) = passed
+verdict_says (Err f) = blamed (refusal_number f.refusal) f.column
 
 -- in a refusal all else is 0
-abbrev pub counted_says : Counted → Verdict × Tally
-counted_says (counted.Tallies t) = (passed, t)
-counted_says (counted.Refused e k) = (blamed e k, no_tally)
-
-abbrev pub ranked_says : Ranked → Answer ℕ
-ranked_says (ranked.Ones n) = given n
-ranked_says (ranked.Refused e) = refused e
-
-abbrev pub selected_says : Selected → Answer ℕ
-selected_says (selected.At b) = given b.index
-selected_says (selected.Refused e) = refused e
+abbrev pub counted_says : Result Tally Fault → Verdict × Tally
+counted_says (Ok t) = (passed, t)
+counted_says (Err f) = (blamed (refusal_number f.refusal) f.column, no_tally)

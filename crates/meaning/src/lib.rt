@@ -1,6 +1,12 @@
 // The places, offsets and answers in which every crate speaks. What each answer says in document 01's numbers is in specs/Says.antt.
 #![tactic(auto)]
 
+ghost use Rattle.std.specs.Prelude.{◌≡◌};
+ghost use Rattle.meaning.specs.Says.{refusal_number};
+
+use std::error::Error;
+use std::fmt;
+
 // Document 01's limits.
 pub const MOST_COLUMNS: usize = 16;
 
@@ -30,31 +36,75 @@ pub const HEAD_SIZE: usize = 2;
 pub const ENTRY_SIZE: usize = 24;
 
 // The refusals by their numbers in document 01; what each says is in specs/Limits.antt.
-pub const NO_SHEET: u8 = 1;
+#[derive(Clone, Copy, Debug, PartialEq, Eq, Hash)]
+pub enum Refusal {
+    NoSheet = 1,
+    BadTable = 2,
+    Malformed = 3,
+    Unfit = 4,
+    NoColumn = 5,
+    NoPlace = 6,
+    NoRoom = 7,
+    ShortWork = 8,
+    CutShort = 9,
+    Falls = 10,
+    BadOrders = 11,
+    BadBoard = 12,
+    Broken = 13,
+}
 
-pub const BAD_TABLE: u8 = 2;
+impl From<Refusal> for u8 {
+    ghost from_gives = { λ e n. n ≡ refusal_number e };
 
-pub const MALFORMED: u8 = 3;
+    fn from(e: Refusal) -> u8 {
+        e as u8
+    }
+}
 
-pub const UNFIT: u8 = 4;
+impl From<Refusal> for u32 {
+    ghost from_gives = { λ e n. n ≡ refusal_number e };
 
-pub const NO_COLUMN: u8 = 5;
+    fn from(e: Refusal) -> u32 {
+        e as u32
+    }
+}
 
-pub const NO_PLACE: u8 = 6;
+// A refusal is shown by its number.
+impl fmt::Display for Refusal {
+    fn fmt<W: fmt::Write>(&self, f: &mut fmt::Formatter<W>) -> fmt::Result {
+        write!(f, "{}", u8::from(*self))
+    }
+}
 
-pub const NO_ROOM: u8 = 7;
+impl Error for Refusal {}
 
-pub const SHORT_WORK: u8 = 8;
+// A refusal that names the column at fault, 0 where it is of the whole sheet.
+#[derive(Clone, Copy, Debug, PartialEq, Eq, Hash)]
+pub struct Fault {
+    pub refusal: Refusal,
+    pub column: usize,
+}
 
-pub const CUT_SHORT: u8 = 9;
+// A refusal of the whole sheet.
+impl From<Refusal> for Fault {
+    ghost from_gives = { λ e f. f ≡ record { refusal = e; column = 0 } };
 
-pub const FALLS: u8 = 10;
+    fn from(e: Refusal) -> Fault {
+        Fault {
+            refusal: e,
+            column: 0,
+        }
+    }
+}
 
-pub const BAD_ORDERS: u8 = 11;
+// An operation on one column does not tell which column the check found at fault.
+impl From<Fault> for Refusal {
+    ghost from_gives = { λ f e. e ≡ f.refusal };
 
-pub const BAD_BOARD: u8 = 12;
-
-pub const BROKEN: u8 = 13;
+    fn from(f: Fault) -> Refusal {
+        f.refusal
+    }
+}
 
 // A place counts numbers.
 #[derive(Clone, Copy)]
@@ -83,17 +133,11 @@ pub struct Position {
     pub bit: Bit,
 }
 
-// Reading one unit: where the next begins and how many numbers this one holds, or the refusal.
-#[derive(Clone, Copy)]
-pub enum Unit {
-    Next(Position, usize),
-    Refused(u8),
-}
-
-// A unit's answer with its numbers beside it, from the array's first place on; the places after them are 0.
+// One unit read: where the next begins, how many numbers this one holds, and these from the array's first place on; the places after them are 0.
 #[derive(Clone, Copy)]
 pub struct UnitRead {
-    pub unit: Unit,
+    pub next: Position,
+    pub count: usize,
     pub numbers: [u32; 16],
 }
 
@@ -107,41 +151,6 @@ pub struct Taken {
     pub spare: usize,
 }
 
-// Judging a plan.
-#[derive(Clone, Copy)]
-pub enum Judged {
-    Passed,
-    Refused(u8),
-}
-
-// A size told: the worst size of a plan, or how many bytes were written.
-#[derive(Clone, Copy)]
-pub enum Sized {
-    Bytes(usize),
-    Refused(u8),
-}
-
-// Reading a list: how many numbers it has.
-#[derive(Clone, Copy)]
-pub enum Reading {
-    Whole(usize),
-    Refused(u8),
-}
-
-// Looking one number up.
-#[derive(Clone, Copy)]
-pub enum Found {
-    Number(u32),
-    Refused(u8),
-}
-
-// Checking a sheet: a refusal names the column at fault.
-#[derive(Clone, Copy)]
-pub enum Checked {
-    Passed,
-    Refused(u8, usize),
-}
-
 // Counting the board.
 #[derive(Clone, Copy)]
 pub struct Tally {
@@ -149,24 +158,4 @@ pub struct Tally {
     pub failed: usize,
     pub killed: usize,
     pub unended: usize,
-}
-
-#[derive(Clone, Copy)]
-pub enum Counted {
-    Tallies(Tally),
-    Refused(u8, usize),
-}
-
-// Rank: how many ones stand before a bit.
-#[derive(Clone, Copy)]
-pub enum Ranked {
-    Ones(usize),
-    Refused(u8),
-}
-
-// Select: the bit of a one.
-#[derive(Clone, Copy)]
-pub enum Selected {
-    At(Bit),
-    Refused(u8),
 }

@@ -22,7 +22,7 @@ use Rattle.meaning.proofs.Bounds.{below-nil, below-cons, below-append, below-tak
 use Rattle.meaning.proofs.Lasting.{Lasts, lasts-given, lasts-rule, lasts-bind}
 use Rattle.meaning.proofs.Tests.{by_order}
 use Rattle.words.proofs.Bytes.{bytes-length, bytes_small, number-bytes, number_small, bytes-number}
-use Rattle.leaves.proofs.Joined.{joined-append}
+use Rattle.leaves.proofs.Joined.{joined-append, joined-next, joined-rest, joined-past}
 use Rattle.leaves.proofs.Parts.{part-cons}
 
 -- ---- how many bytes hold a number
@@ -81,10 +81,30 @@ unfolding data_bytes joined sum
 data-length [] = refl
 data-length (x ∷ xs) = length-append (fewest x) (joined fewest xs) ∙ ap₂ ◌+◌ (few-length x) (data-length xs)
 
+-- from a number on, and past the last
+pub data-rest : (xs : List ℕ) (i : ℕ) → i < length xs → data_bytes (drop i xs) ≡ fewest (get_or xs i 0) ++ data_bytes (drop (i + 1) xs)
+unfolding data_bytes
+data-rest xs i h = joined-rest fewest xs 0 i h
+
+pub data-past : (xs : List ℕ) (i : ℕ) → length xs ≤ i → data_bytes (drop i xs) ≡ []
+unfolding data_bytes
+data-past xs i h = joined-past fewest xs i h
+
 pub data-most : (xs : List ℕ) → length (data_bytes xs) ≤ 4 * length xs
 unfolding data_bytes joined
 data-most [] = omega arith
 data-most (x ∷ xs) = simp length-append (omega (arith, few-length x, (held x).most, data-most xs))
+
+pub data-empty : length (data_bytes []) ≡ 0
+unfolding data_bytes joined
+data-empty = refl
+
+-- a number more
+pub data-next : (xs : List ℕ) (i : ℕ) → i < length xs
+    → length (data_bytes (take (i + 1) xs)) ≡ length (data_bytes (take i xs)) + byte_length (get_or xs i 0)
+unfolding data_bytes
+data-next xs i h =
+    rw (joined-next fewest xs 0 i h, length-append (joined fewest (take i xs)) (fewest (get_or xs i 0)), few-length (get_or xs i 0)) refl
 
 pub data-small : (xs : List ℕ) → Below 256 (data_bytes xs)
 unfolding data_bytes joined

@@ -7,7 +7,7 @@ ghost use Rattle.meaning.specs.Bytes.{bytes_of, number_of, word, word_at};
 ghost use Rattle.meaning.specs.DataBytes.{byte_length, fewest, data_bytes};
 ghost use Rattle.meaning.specs.Places.{Wrote, part};
 
-use leaves::{put, wide};
+use leaves::put;
 use meaning::{Offset, Place};
 
 // How many bytes hold x: zero takes one.
@@ -27,19 +27,19 @@ pub fn number_at(bytes: &[u8], at: Offset, len: usize) -> u32
     ensures { result ≡ number_of (take len (drop at.byte bytes.now)) }
 {
     let first = at.byte;
-    let a = wide(bytes[first]);
+    let a = u32::from(bytes[first]);
     if len == 1 {
         return a;
     }
-    let b = a + 256 * wide(bytes[first + 1]);
+    let b = a + 256 * u32::from(bytes[first + 1]);
     if len == 2 {
         return b;
     }
-    let c = b + 65536 * wide(bytes[first + 2]);
+    let c = b + 65536 * u32::from(bytes[first + 2]);
     if len == 3 {
         return c;
     }
-    c + 16777216 * wide(bytes[first + 3])
+    c + 16777216 * u32::from(bytes[first + 3])
 }
 
 // The number in the 4 bytes from an offset on.
@@ -58,20 +58,17 @@ pub fn eight_at(bytes: &[u8], at: Offset) -> u64
     let low = word_at(bytes, at);
     let middle = at.byte + 4;
     let high = word_at(bytes, Offset { byte: middle });
-    low as u64 + 4294967296 * high as u64
+    u64::from(low) + 4294967296 * u64::from(high)
 }
 
-// How many bytes the data of n numbers from a place on takes.
-pub fn data_length(list: &[u32], from: Place, n: usize) -> usize
-    requires { (from.number + n ≤ length list.now) × (4 * n < 2 ^ 64) }
-    ensures { result ≡ length (data_bytes (part list.now from.number n)) }
+// How many bytes the data of a list takes.
+pub fn data_length(list: &[u32]) -> usize
+    requires { 4 * length list.now < 2 ^ 64 }
+    ensures { result ≡ length (data_bytes list.now) }
 {
-    let first = from.number;
     let mut size: usize = 0;
-    let mut i: usize = 0;
-    while i < n {
-        size += byte_length(list[first + i]);
-        i += 1;
+    for &x in list {
+        size += byte_length(x);
     }
     size
 }
@@ -126,17 +123,14 @@ fn put_near(out: &mut [u8], at: Offset, x: u32) -> Offset
     Offset { byte: start + 4 }
 }
 
-// Puts the data of n numbers from a place on, and answers the offset after it.
-pub fn put_data(list: &[u32], from: Place, n: usize, out: &mut [u8], at: Offset) -> Offset
-    requires { (from.number + n ≤ length list.now) × (at.byte + 4 * n < 2 ^ 63) }
-    ensures { Wrote (data_bytes (part list.now from.number n)) at.byte out.old out.new result }
+// Puts the data of a list, and answers the offset after it.
+pub fn put_data(list: &[u32], out: &mut [u8], at: Offset) -> Offset
+    requires { at.byte + 4 * length list.now < 2 ^ 63 }
+    ensures { Wrote (data_bytes list.now) at.byte out.old out.new result }
 {
-    let first = from.number;
     let mut to = at;
-    let mut i: usize = 0;
-    while i < n {
-        to = put_fewest(out, to, list[first + i]);
-        i += 1;
+    for &x in list {
+        to = put_fewest(out, to, x);
     }
     to
 }
@@ -160,11 +154,9 @@ pub fn put_number(out: &mut [u8], at: Offset, x: usize, bytes: usize)
 {
     let first = at.byte;
     let mut rest = x;
-    let mut i: usize = 0;
-    while i < bytes {
+    for i in 0..bytes {
         put(out, Offset { byte: first + i }, (rest % 256) as u8);
         rest = rest / 256;
-        i += 1;
     }
 }
 
@@ -175,14 +167,14 @@ pub fn take_eight(body: &[u8], at: Offset, out: &mut [u32], to: Place)
 {
     let start = at.byte;
     let first = to.number;
-    let a = wide(body[start]);
-    let b = wide(body[start + 1]);
-    let c = wide(body[start + 2]);
-    let d = wide(body[start + 3]);
-    let e = wide(body[start + 4]);
-    let f = wide(body[start + 5]);
-    let g = wide(body[start + 6]);
-    let h = wide(body[start + 7]);
+    let a = u32::from(body[start]);
+    let b = u32::from(body[start + 1]);
+    let c = u32::from(body[start + 2]);
+    let d = u32::from(body[start + 3]);
+    let e = u32::from(body[start + 4]);
+    let f = u32::from(body[start + 5]);
+    let g = u32::from(body[start + 6]);
+    let h = u32::from(body[start + 7]);
     out[first] = a;
     out[first + 1] = b;
     out[first + 2] = c;

@@ -6,7 +6,7 @@ use Rattle.words.proofs.number_at.Goals as goal
 pub returns-then-len-eq1 : goal.returns-then-len-eq1
 returns-then-len-eq1 c =
     let a = c.args in
-    rw c.if-len-eq1.true (c.wide-a.ensures.0 ∙ sym (number-1 a.bytes.now a.at.byte (omega arith)))
+    rw c.if-len-eq1.true (c.from-a.ensures ∙ sym (number-1 a.bytes.now a.at.byte (omega arith)))
 
 pub returns-then-len-eq2 : goal.returns-then-len-eq2
 returns-then-len-eq2 c =

@@ -1,32 +1,24 @@
 -- What is still to be put, put from here on, makes the whole; a turn puts one number. Assumes nothing.
-use Prim.Native.Nat.{◌+◌, ◌-◌}
-use native.Mathlib.Omega.{arith}
-use lib.ListN.{get_or}
-use Rattle.words.proofs.DataBytes.{data-part, data-part-none}
-use Rattle.words.proofs.Puts.{put-start, put-turn, put-end, put-long, put-few, data-bound}
-use Rattle.words.proofs.put_data.Invariants.{bytes}
+use Rattle.std.proofs.Common.{get_or, arith, length}
+use Rattle.leaves.proofs.Putting.{left-start, left-long, left-turn, left_end}
+use Rattle.words.proofs.DataBytes.{data-most, data-rest, data-past}
+use Rattle.words.proofs.Puts.{put-few}
 use Rattle.words.proofs.put_data.Goals as goal
 
-pub loop-i-init : goal.loop-i-init
-loop-i-init c =
-    let a = c.args in
-    put-start (bytes a.list.now) a.from.number a.n a.at.byte a.out.now
+pub loop-x-init : goal.loop-x-init
+loop-x-init c = left-start _ _ _
 
 pub put_fewest-to-requires : goal.put_fewest-to-requires
-put_fewest-to-requires c =
-    let a = c.args in
-    omega (arith, c.loop-i.invariant, data-bound a.list.now a.from.number a.n c.requires.0)
+put_fewest-to-requires c = omega (arith, c.loop-x.invariant.ends, data-most c.args.list.now)
 
-pub loop-i-preserved : goal.loop-i-preserved
-loop-i-preserved c =
-    let l = c.loop-i in
-    let a = c.args in
-    let more = c.loop-i-test.true in
-    let next = data-part a.list.now (a.from.number + l.i) (a.n - l.i) (omega arith) (omega (arith, c.requires.0)) in
-    put-turn l.invariant 1 (omega arith) next (put-few (get_or a.list.now (a.from.number + l.i) 0) c.put_fewest-to.ensures)
+pub loop-x-preserved : goal.loop-x-preserved
+loop-x-preserved c =
+    let l = c.loop-x in
+    let s = c.args.list.now in
+    left-turn l.invariant (data-rest s l.x-index c.loop-x-test.true) (put-few (get_or s l.x-index 0) c.put_fewest-to.ensures)
 
 pub shape_of-out : goal.shape_of-out
-shape_of-out c = put-long c.loop-i.invariant
+shape_of-out c = left-long c.loop-x.invariant
 
 pub returns : goal.returns
-returns c = put-end c.loop-i.invariant c.loop-i-test.false (data-part-none c.args.list.now)
+returns c = left_end c.loop-x.invariant (data-past c.args.list.now c.loop-x.x-index c.loop-x-test.false)

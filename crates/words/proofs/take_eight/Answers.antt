@@ -31,5 +31,5 @@ shape_of-out c = simp length-set refl
 
 pub returns : goal.returns
 returns c =
-    eight-stored _ _ _ _ c.requires.0 c.wide-a.ensures.0 c.wide-b.ensures.0 c.wide-c.ensures.0 c.wide-d.ensures.0
-    c.wide-e.ensures.0 c.wide-f.ensures.0 c.wide-g.ensures.0 c.wide-h.ensures.0
+    eight-stored _ _ _ _ c.requires.0 c.from-a.ensures c.from-b.ensures c.from-c.ensures c.from-d.ensures
+    c.from-e.ensures c.from-f.ensures c.from-g.ensures c.from-h.ensures
