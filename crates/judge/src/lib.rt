@@ -7,12 +7,10 @@ ghost use Rattle.meaning.specs.Promises.{Judges, Sizes};
 ghost use Rattle.meaning.specs.Limits.{bad_orders};
 ghost use Rattle.meaning.specs.Lists.{all};
 ghost use Rattle.meaning.specs.Plan.{well_formed, judge_plan};
-ghost use Rattle.meaning.specs.Says.{judged_says};
+ghost use Rattle.meaning.specs.Says.{says};
 
 use crate::tree::{good_end, passes_plan, worst_plan};
-use meaning::{
-    BAD_ORDERS, Judged, MALFORMED, MOST_NUMBERS, Offset, PLAN_BYTES, RISING, Sized, UNFIT,
-};
+use meaning::{MOST_NUMBERS, Offset, PLAN_BYTES, RISING, Refusal};
 
 pub mod stage;
 pub mod tree;
@@ -50,32 +48,32 @@ pub fn well_formed(plan: &[u8]) -> bool
 }
 
 // The judge's refusals in their order; whether the kind is known comes first.
-fn judge_when(known: bool, kind: u8, plan: &[u8]) -> Judged
-    ensures { judged_says result ≡ need known bad_orders (judge_plan kind plan.now) }
+fn judge_when(known: bool, kind: u8, plan: &[u8]) -> Result<(), Refusal>
+    ensures { says result ≡ need known bad_orders (judge_plan kind plan.now) }
 {
     let formed = well_formed(plan);
     let passed = passes_plan(plan, Offset { byte: 0 }, MOST_STAGES, kind);
     if !known {
-        return Judged::Refused(BAD_ORDERS);
+        return Err(Refusal::BadOrders);
     }
     if !formed {
-        return Judged::Refused(MALFORMED);
+        return Err(Refusal::Malformed);
     }
     if !passed {
-        return Judged::Refused(UNFIT);
+        return Err(Refusal::Unfit);
     }
-    Judged::Passed
+    Ok(())
 }
 
 // A plan judged for a kind that the caller knows.
-pub fn judge_plan(kind: u8, plan: &[u8]) -> Judged
-    ensures { judged_says result ≡ judge_plan kind plan.now }
+pub fn judge_plan(kind: u8, plan: &[u8]) -> Result<(), Refusal>
+    ensures { says result ≡ judge_plan kind plan.now }
 {
     judge_when(true, kind, plan)
 }
 
 // The judge asked alone: a kind above 1 is refused first.
-pub fn judge(kind: u8, plan: &[u8]) -> Judged
+pub fn judge(kind: u8, plan: &[u8]) -> Result<(), Refusal>
     ensures { Judges kind plan.now result }
 {
     let known = kind <= RISING;
@@ -83,15 +81,15 @@ pub fn judge(kind: u8, plan: &[u8]) -> Judged
 }
 
 // The worst size asked alone: a malformed plan is refused, then n above 1,024.
-pub fn worst_size(plan: &[u8], n: usize) -> Sized
+pub fn worst_size(plan: &[u8], n: usize) -> Result<usize, Refusal>
     ensures { Sizes plan.now n result }
 {
     let sound = well_formed(plan);
     if !sound {
-        return Sized::Refused(MALFORMED);
+        return Err(Refusal::Malformed);
     }
     if MOST_NUMBERS < n {
-        return Sized::Refused(BAD_ORDERS);
+        return Err(Refusal::BadOrders);
     }
-    Sized::Bytes(worst_plan(plan, Offset { byte: 0 }, MOST_STAGES, n))
+    Ok(worst_plan(plan, Offset { byte: 0 }, MOST_STAGES, n))
 }
