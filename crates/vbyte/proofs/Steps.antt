@@ -1,25 +1,28 @@
 -- Reading one number byte by byte, on plain values: what each test of `number_at`, `from_second` and `from_fourth` says of the definitions. Assumes nothing.
 use Prim.Native.Nat.{ℕ, suc, ◌+◌, ◌-◌, ◌*◌, ◌≤◌, ◌<◌}
-use mathlib.Core.Path.{◌≡◌, refl, ap, ap₂, ◌∙◌}
+use mathlib.Core.Path.{◌≡◌, refl, sym, ap, ap₂, ◌∙◌}
 use mathlib.Core.Bool.{not}
 use mathlib.Core.List.{List, [], ◌∷◌}
 use native.Mathlib.Nat.{add_assoc, mul-add, mul_assoc}
 use native.Mathlib.Numerals.{add-one}
 use native.Mathlib.Omega.{arith}
+use Rattle.std.specs.Prelude.{Result, Ok, Err}
 use lib.Dec.{eqb}
-use lib.ListN.{length, get_or, drop, drop_of_length-le}
+use lib.ListN.{length, get_or, drop, drop_of_length-le, replicate}
 use lib.Seq.{drop-cons}
 use borrow.Author.Tests.{lt-ltb, le-ltb, le-leb, lt-leb}
 use Rattle.meaning.specs.Answer.{Answer, given, refused, bind, need}
 use Rattle.meaning.specs.Limits.{cut_short, broken}
+use Rattle.meaning.specs.Places.{UnitIs}
 use Rattle.meaning.specs.Positions.{at_byte}
 use Rattle.meaning.specs.VByte.{later_in, vbyte_in, unit_vbyte}
-use Rattle.meaning.specs.declared.Offset.{Offset}
+use Rattle.meaning.specs.Says.{says_by}
 use Rattle.meaning.specs.declared.Position.{Position}
+use Rattle.meaning.specs.declared.Refusal.{Refusal}
+use Rattle.meaning.specs.declared.UnitRead.{UnitRead}
 use Rattle.meaning.proofs.Tests.{by-test}
-use Rattle.vbyte.specs.Numbers.{number_says, number_at, later_at}
+use Rattle.vbyte.specs.Numbers.{number_told, number_at, later_at}
 use Rattle.vbyte.specs.declared.Number.{Number}
-use Rattle.vbyte.specs.declared.Number.TheVariants as number
 
 -- a byte before a number and its size, and a number and its size seen from an offset
 abbrev pub led : ℕ → ℕ × ℕ → Answer (ℕ × ℕ)
@@ -95,13 +98,22 @@ unit-is : (m : Answer (ℕ × ℕ)) (at : ℕ) → bind m (λ t. one_unit (t.0, 
 unit-is (given t) at = refl
 unit-is (refused e) at = refl
 
-module _ (body : List ℕ) (left : ℕ) (p : Position) (r : Number) (told : number_says r ≡ number_at body p.head.byte) where
-  unit-told : unit_vbyte body left p ≡ bind (number_says r) one_unit
+module _ (body : List ℕ) (left : ℕ) (p : Position) (r : Result Number Refusal) (told : says_by number_told r ≡ number_at body p.head.byte) where
+  told-unit : unit_vbyte body left p ≡ bind (says_by number_told r) one_unit
   unfolding unit_vbyte number_at
-  unit-told = rw told (unit-is (vbyte_in (drop p.head.byte body)) p.head.byte)
+  told-unit = rw told (unit-is (vbyte_in (drop p.head.byte body)) p.head.byte)
 
-  pub unit-given : {x : ℕ} {next : Offset} → r ≡ number.Read x next → unit_vbyte body left p ≡ given (at_byte next.byte, x ∷ [])
-  unit-given e = rw e at unit-told
+  pub number-given : {t : Number} → r ≡ Ok t → unit_vbyte body left p ≡ given (at_byte t.next.byte, t.value ∷ [])
+  number-given e = rw e at told-unit
 
-  pub unit-refused : {z : ℕ} → r ≡ number.Refused z → unit_vbyte body left p ≡ refused z
-  unit-refused e = rw e at unit-told
+  pub unit-given : {t : Number} → r ≡ Ok t → {next : Position} → next ≡ at_byte t.next.byte
+      → UnitIs (unit_vbyte body left p) (Ok (record { next = next; count = 1; numbers = t.value ∷ replicate 15 0 }))
+  unit-given {t} e {next} is =
+      record {
+        told = rw is (sym (number-given e));
+        few = λ u q. let n : 1 ≡ u.count = cc in omega arith;
+        clear = λ u q. let v : ◌≡◌ {A = UnitRead} (record { next = next; count = 1; numbers = t.value ∷ replicate 15 0 }) u = cc in rw (← v);
+      }
+
+  pub unit-refused : {z : Refusal} → r ≡ Err z → UnitIs (unit_vbyte body left p) (Err z)
+  unit-refused e = record { told = sym (rw e at told-unit); few = λ u q. absurd (cc q); clear = λ u q. absurd (cc q) }

@@ -5,24 +5,25 @@ use mathlib.Core.List.{List, [], ◌∷◌, ◌++◌}
 use native.Mathlib.Nat.{add-zero}
 use native.Mathlib.Numerals.{add-one, towards_suc}
 use native.Mathlib.Omega.{arith}
+use Rattle.std.specs.Prelude.{Result, Ok}
 use lib.ListN.{length, get_or, drop, set, length-drop, length-set}
 use lib.Seq.{sets, length-sets, length-take-le, take-add, drop-drop, get_or-take, get_or-drop}
 use Rattle.meaning.specs.Codes.{code_vbyte}
 use Rattle.meaning.specs.Places.{part, Took, Ends}
 use Rattle.meaning.specs.Positions.{at_byte}
 use Rattle.meaning.specs.VByte.{unit_vbyte}
-use Rattle.meaning.specs.declared.Offset.{Offset}
+use Rattle.meaning.specs.Says.{says_by}
 use Rattle.meaning.specs.declared.Position.{Position}
+use Rattle.meaning.specs.declared.Refusal.{Refusal}
 use Rattle.meaning.specs.declared.Taken.{Taken}
 use Rattle.meaning.proofs.Bounds.{below-nil, below-cons, below-append}
 use Rattle.meaning.proofs.Codes.{spare-always}
 use Rattle.meaning.proofs.Stores.{sets-append, sets-snoc}
 use Rattle.meaning.proofs.Taking.{Takes, takes-start, takes-next, takes-end}
 use Rattle.leaves.proofs.Parts.{part-snoc, part-each}
-use Rattle.vbyte.specs.Numbers.{number_says, number_at, Ones}
+use Rattle.vbyte.specs.Numbers.{number_told, number_at, Ones}
 use Rattle.vbyte.specs.declared.Number.{Number}
-use Rattle.vbyte.specs.declared.Number.TheVariants as number
-use Rattle.vbyte.proofs.Steps.{number-one, unit-given}
+use Rattle.vbyte.proofs.Steps.{number-one, number-given}
 
 -- ---- numbers of one byte: four at a time
 pub ones_none : (body : List ℕ) (at most from : ℕ) (work : List ℕ) → Ones body at most from work work 0
@@ -79,11 +80,11 @@ module _ {body : List ℕ} {left : ℕ} {p : Position} {w₀ : List ℕ} {from :
   unfolding unit_vbyte
   take-start = takes-start code_vbyte body left p w₀ from (at_byte p.head.byte) (spare-always []) (λ k. refl)
 
-  take-turn : {w : List ℕ} {i to : ℕ} → TakesTo body left p w₀ from w i to → i < left → (r : Number) → number_says r ≡ number_at body to
-      → {x : ℕ} {next : Offset} → r ≡ number.Read x next → TakesTo body left p w₀ from (set w (from + i) x) (i + 1) next.byte
+  take-turn : {w : List ℕ} {i to : ℕ} → TakesTo body left p w₀ from w i to → i < left → (r : Result Number Refusal)
+      → says_by number_told r ≡ number_at body to → {x : Number} → r ≡ Ok x → TakesTo body left p w₀ from (set w (from + i) x.value) (i + 1) x.next.byte
   take-turn {w} {i} {to} t h r told {x} e =
-      takes-next code_vbyte body left p w₀ from w i i 0 (at_byte to) t refl _ _ h (unit-given body (left - i) (at_byte to) r told e) (omega arith)
-      (spare-always (x ∷ [])) refl
+      takes-next code_vbyte body left p w₀ from w i i 0 (at_byte to) t refl _ _ h (number-given body (left - i) (at_byte to) r told e) (omega arith)
+      (spare-always (x.value ∷ [])) refl
 
   -- numbers of one byte, one by one
   module _ {most : ℕ} {w : List ℕ} {n : ℕ} (ones : Ones body p.head.byte most from w₀ w n) (h : n ≤ left) where
@@ -97,7 +98,7 @@ module _ {body : List ℕ} {left : ℕ} {p : Position} {w₀ : List ℕ} {from :
         let stored : set (sets w₀ from (part body at k)) (from + k) x ≡ sets w₀ from (part body at (k + 1)) =
         rw (part-snoc body at k inside) (rw (part-long body at k (omega (arith, ones.there))) at (sets-snoc (part body at k) x w₀ from)) in
         let next : at + k + 1 ≡ at + suc k = omega arith in
-        rw (stored, next, add-one k) at (take-turn t (omega arith) (number.Read x (record { byte = at + k + 1 })) read refl)
+        rw (stored, next, add-one k) at (take-turn t (omega arith) (Ok (record { value = x; next = record { byte = at + k + 1 } })) read refl)
 
     upto : (k : ℕ) → k ≤ n → TakesOnes body left p w₀ from k
     upto zero l = rw add-zero take-start
@@ -116,8 +117,8 @@ pub record Onward (body : List ℕ) (left : ℕ) (p : Position) (from most : ℕ
 
 module _ {body : List ℕ} {left : ℕ} {p : Position} {from most : ℕ} {w₁ : List ℕ} {i₁ to₁ : ℕ} {w : List ℕ} {i to : ℕ}
     (s : Onward body left p from most w₁ i₁ to₁ w i to) where
-  pub onward-turn : i < most → (r : Number) → number_says r ≡ number_at body to → {x : ℕ} {next : Offset} → r ≡ number.Read x next
-      → Onward body left p from most w₁ i₁ to₁ (set w (from + i) x) (i + 1) next.byte
+  pub onward-turn : i < most → (r : Result Number Refusal) → says_by number_told r ≡ number_at body to → {x : Number} → r ≡ Ok x
+      → Onward body left p from most w₁ i₁ to₁ (set w (from + i) x.value) (i + 1) x.next.byte
   onward-turn h r told e =
       record {
         many = omega arith;

@@ -1,15 +1,13 @@
 -- One number at an offset of a body: its value and the offset after it, or the refusal.
 use Rattle.std.specs.Prelude.{ℕ, ◌+◌, ◌-◌, ◌*◌, ◌≤◌, ◌≡◌, List, length, drop}
 use Rattle.std.proofs.lemmas.List.Edits.{sets}
-use Rattle.meaning.specs.Answer.{Answer, given, refused, bind}
+use Rattle.meaning.specs.Answer.{Answer, given, bind}
 use Rattle.meaning.specs.Places.{Below, part}
 use Rattle.meaning.specs.VByte.{later_in, vbyte_in}
 use Rattle.vbyte.specs.declared.Number.{Number}
-use Rattle.vbyte.specs.declared.Number.TheVariants as number
 
-abbrev pub number_says : Number → Answer (ℕ × ℕ)
-number_says (number.Read x next) = given (x, next.byte)
-number_says (number.Refused e) = refused e
+abbrev pub number_told : Number → ℕ × ℕ
+number_told t = (t.value, t.next.byte)
 
 unfoldable pub number_at : List ℕ → ℕ → Answer (ℕ × ℕ)
 number_at body at = bind (vbyte_in (drop at body)) (λ t. given (t.0, at + t.1))

@@ -5,18 +5,19 @@ ghost use Rattle.std.specs.Prelude.{not, ◌≡◌, ◌+◌, ◌^◌, ◌≤◌,
 ghost use Rattle.meaning.specs.Answer.{given, need};
 ghost use Rattle.meaning.specs.Codes.{code_vbyte};
 ghost use Rattle.meaning.specs.Limits.{most_bytes, broken};
-ghost use Rattle.meaning.specs.Places.{Source, Target, Wrote, Took, UnitIs, part};
+ghost use Rattle.meaning.specs.Places.{Source, Target, Wrote, Took, UnitIs};
+ghost use Rattle.meaning.specs.Says.{says_by};
 ghost use Rattle.meaning.specs.VByte.{sevens, vbyte};
-ghost use Rattle.vbyte.specs.Numbers.{number_says, number_at, later_at, Ones};
+ghost use Rattle.vbyte.specs.Numbers.{number_told, number_at, later_at, Ones};
 
-use leaves::{from_byte, lesser, put, taken, wide};
-use meaning::{BROKEN, CUT_SHORT, Offset, Place, Position, Taken, Unit, UnitRead};
+use leaves::{from_byte, put, taken};
+use meaning::{Offset, Place, Position, Refusal, Taken, UnitRead};
 
-// One number read: its value and the offset after it, or the refusal.
+// One number read, and the offset after it.
 #[derive(Clone, Copy)]
-enum Number {
-    Read(u32, Offset),
-    Refused(u8),
+struct Number {
+    value: u32,
+    next: Offset,
 }
 
 // Puts a number's third byte and those after it, given its bits above the lowest 14; answers the offset after them.
@@ -64,75 +65,72 @@ fn put_number(out: &mut [u8], at: Offset, x: u32) -> Offset
     put_from_third(out, third, above7 / 128)
 }
 
-// Writes n numbers of a list, from a place on, to an output, from an offset on; answers the offset after them.
-pub fn write(list: &[u32], from: Place, n: usize, out: &mut [u8], at: Offset) -> Offset
-    requires { Source list.now from.number n at.byte }
-    ensures { Wrote (code_vbyte.write (part list.now from.number n)) at.byte out.old out.new result }
+// Writes a list to an output, from an offset on, and answers the offset after it.
+pub fn write(list: &[u32], out: &mut [u8], at: Offset) -> Offset
+    requires { Source list.now at.byte }
+    ensures { Wrote (code_vbyte.write list.now) at.byte out.old out.new result }
 {
-    let first = from.number;
     let mut to = at;
-    let mut i: usize = 0;
-    while i < n {
-        to = put_number(out, to, list[first + i]);
-        i += 1;
+    for &x in list {
+        to = put_number(out, to, x);
     }
     to
 }
 
 // A number x that ends with a byte b, not its first; b is not 0, or fewer bytes would hold x.
-fn last(b: u32, x: u32, next: Offset) -> Number
-    ensures { number_says result ≡ need (not (eqb b 0)) broken (given (x, next.byte)) }
+fn last(b: u32, x: u32, next: Offset) -> Result<Number, Refusal>
+    ensures { says_by number_told result ≡ need (not (eqb b 0)) broken (given (x, next.byte)) }
 {
     if b == 0 {
-        return Number::Refused(BROKEN);
+        return Err(Refusal::Broken);
     }
-    Number::Read(x, next)
+    Ok(Number { value: x, next })
 }
 
 // The number whose first three bytes make `low` and whose fourth stands at an offset.
-fn from_fourth(body: &[u8], at: Offset, low: u32) -> Number
+fn from_fourth(body: &[u8], at: Offset, low: u32) -> Result<Number, Refusal>
     requires { low < 2 ^ 21 }
-    ensures { number_says result ≡ later_at 1 (2 ^ 21) low body.now at.byte }
+    ensures { says_by number_told result ≡ later_at 1 (2 ^ 21) low body.now at.byte }
 {
     let end = body.len();
     let here = at.byte;
     if end <= here {
-        return Number::Refused(CUT_SHORT);
+        return Err(Refusal::CutShort);
     }
-    let fourth = wide(body[here]);
+    let fourth = u32::from(body[here]);
     if fourth < 128 {
         return last(fourth, low + 2097152 * fourth, Offset { byte: here + 1 });
     }
     let low28 = low + 2097152 * (fourth - 128);
     if end <= here + 1 {
-        return Number::Refused(CUT_SHORT);
+        return Err(Refusal::CutShort);
     }
-    let fifth = wide(body[here + 1]);
+    let fifth = u32::from(body[here + 1]);
     if 15 < fifth {
-        return Number::Refused(BROKEN);
+        return Err(Refusal::Broken);
     }
     last(fifth, low28 + 268435456 * fifth, Offset { byte: here + 2 })
 }
 
 // The number whose first byte makes `low` and whose second stands at an offset.
-fn from_second(body: &[u8], at: Offset, low: u32) -> Number
+fn from_second(body: &[u8], at: Offset, low: u32) -> Result<Number, Refusal>
     requires { low < 2 ^ 7 }
-    ensures { number_says result ≡ later_at 3 (2 ^ 7) low body.now at.byte }
+    ensures { says_by number_told result ≡ later_at 3 (2 ^ 7) low body.now at.byte }
 {
     let end = body.len();
     let here = at.byte;
     if end <= here {
-        return Number::Refused(CUT_SHORT);
+        return Err(Refusal::CutShort);
     }
-    let second = wide(body[here]);
+    let second = u32::from(body[here]);
     if second < 128 {
         return last(second, low + 128 * second, Offset { byte: here + 1 });
     }
     let low14 = low + 128 * (second - 128);
     if end <= here + 1 {
-        return Number::Refused(CUT_SHORT);
+        return Err(Refusal::CutShort);
     }
-    let third = wide(body[here + 1]);
+    let third = u32::from(body[here + 1]);
     let next = Offset { byte: here + 2 };
     if third < 128 {
         return last(third, low14 + 16384 * third, next);
@@ -141,42 +139,34 @@ fn from_second(body: &[u8], at: Offset, low: u32) -> Number
 }
 
 // The number at an offset; most take one byte.
-fn number_at(body: &[u8], at: Offset) -> Number
-    ensures { number_says result ≡ number_at body.now at.byte }
+fn number_at(body: &[u8], at: Offset) -> Result<Number, Refusal>
+    ensures { says_by number_told result ≡ number_at body.now at.byte }
 {
     let here = at.byte;
     if body.len() <= here {
-        return Number::Refused(CUT_SHORT);
+        return Err(Refusal::CutShort);
     }
     let next = Offset { byte: here + 1 };
-    let first = wide(body[here]);
+    let first = u32::from(body[here]);
     if first < 128 {
-        return Number::Read(first, next);
+        return Ok(Number { value: first, next });
     }
     from_second(body, next, first - 128)
 }
 
 // Reads the unit at a position: one number.
-pub fn unit(body: &[u8], left: usize, at: Position) -> UnitRead
+pub fn unit(body: &[u8], left: usize, at: Position) -> Result<UnitRead, Refusal>
     requires { length body.now ≤ most_bytes }
     ensures { UnitIs (code_vbyte.unit body.now left at) result }
 {
+    let Number { value, next } = number_at(body, at.head)?;
     let mut numbers = [0u32; 16];
-    let r = number_at(body, at.head);
-    match r {
-        Number::Read(x, next) => {
-            numbers[0] = x;
-            let after = from_byte(next);
-            UnitRead {
-                unit: Unit::Next(after, 1),
-                numbers,
-            }
-        }
-        Number::Refused(e) => UnitRead {
-            unit: Unit::Refused(e),
-            numbers,
-        },
-    }
+    numbers[0] = value;
+    Ok(UnitRead {
+        next: from_byte(next),
+        count: 1,
+        numbers,
+    })
 }
 
 // Takes four numbers of one byte each, where four such stand at an offset; answers how many it took, 4 or none.
@@ -186,10 +176,10 @@ fn take_four(body: &[u8], at: Offset, work: &mut [u32], from: Place) -> usize
 {
     let start = at.byte;
     let first = from.number;
-    let a = wide(body[start]);
-    let b = wide(body[start + 1]);
-    let c = wide(body[start + 2]);
-    let d = wide(body[start + 3]);
+    let a = u32::from(body[start]);
+    let b = u32::from(body[start + 1]);
+    let c = u32::from(body[start + 2]);
+    let d = u32::from(body[start + 3]);
     if 127 < a {
         return 0;
     }
@@ -220,7 +210,7 @@ fn take_ones(body: &[u8], at: Offset, work: &mut [u32], from: Place, most: usize
     if end < start {
         return 0;
     }
-    let limit = lesser(most, end - start);
+    let limit = most.min(end - start);
     let mut n: usize = 0;
     while n + 4 <= limit {
         let byte = start + n;
@@ -249,17 +239,16 @@ pub fn take(
 {
     let head = at.head;
     let first = from.number;
-    let most = lesser(left, room);
+    let most = left.min(room);
     let mut i = take_ones(body, head, work, from, most);
     let mut to = Offset {
         byte: head.byte + i,
     };
     while i < most {
-        let r = number_at(body, to);
-        let Number::Read(x, next) = r else {
+        let Ok(Number { value, next }) = number_at(body, to) else {
             return taken(at, i, i, 0, from_byte(to));
         };
-        work[first + i] = x;
+        work[first + i] = value;
         i += 1;
         to = next;
     }

@@ -7,7 +7,7 @@ pub returns-then-body-here : goal.returns-then-body-here
 returns-then-body-here c = number-none _ _ c.if-body-here.true
 
 pub returns-then-first-lt128 : goal.returns-then-first-lt128
-returns-then-first-lt128 c = number-one _ _ c.if-body-here.false c.wide-first.ensures.0 refl c.if-first-lt128.true
+returns-then-first-lt128 c = number-one _ _ c.if-body-here.false c.from-first.ensures refl c.if-first-lt128.true
 
 pub returns : goal.returns
-returns c = c.from_second.ensures ∙ number_more _ _ c.if-body-here.false c.wide-first.ensures.0 refl c.if-first-lt128.false
+returns c = c.from_second.ensures ∙ number_more _ _ c.if-body-here.false c.from-first.ensures refl c.if-first-lt128.false

@@ -19,7 +19,7 @@ pub returns-in_default : goal.returns-in_default
 returns-in_default c = onward-end c.loop-i.invariant c.take_ones-i.ensures refl (omega arith) c.from_byte.ensures c.taken.ensures
 
 pub loop-i-preserved : goal.loop-i-preserved
-loop-i-preserved c = onward-turn c.loop-i.invariant c.loop-i-test.true _ c.number_at-r.ensures c.in-Read.is
+loop-i-preserved c = onward-turn c.loop-i.invariant c.loop-i-test.true _ c.number_at.ensures c.in-Ok.is
 
 pub shape_of-work : goal.shape_of-work
 shape_of-work c = c.loop-i.invariant.long ∙ ones-long c.take_ones-i.ensures

@@ -15,5 +15,5 @@ bounds-work-first-4 c = simp length-set (omega arith)
 
 pub returns : goal.returns
 returns c =
-    ones-four _ _ _ _ c.requires.0 c.wide-a.ensures.0 c.wide-b.ensures.0 c.wide-c.ensures.0 c.wide-d.ensures.0
+    ones-four _ _ _ _ c.requires.0 c.from-a.ensures c.from-b.ensures c.from-c.ensures c.from-d.ensures
     (omega arith) (omega arith) (omega arith) (omega arith)

@@ -1,15 +1,15 @@
 -- `vbyte::unit` meets its contract: the unit is the number at its offset. Assumes nothing.
-use mathlib.Core.Path.{refl, sym}
-use native.Mathlib.Omega.{arith}
+use Rattle.std.proofs.lemmas.Result.{err_from_is_err_and}
 use Rattle.vbyte.proofs.Steps.{unit-given, unit-refused}
 use Rattle.vbyte.proofs.unit.Goals as goal
 
-pub returns-in-Read : goal.returns-in-Read
-returns-in-Read c =
-    let is = unit-given c.args.body.now c.args.left c.args.at _ c.number_at-r.ensures c.in-Read.is in
-    record { told = rw c.from_byte-after.ensures (sym is); few = omega arith; clear = refl }
+pub returns-in_err-value : goal.returns-in_err-value
+returns-in_err-value c =
+    let a = c.args in
+    let p = err_from_is_err_and c.from_residual.result c.from_residual.ensures.1 in
+    rw (p.1, p.2) (unit-refused a.body.now a.left a.at _ c.number_at.ensures c.in_err-value.was)
 
-pub returns-in-Refused : goal.returns-in-Refused
-returns-in-Refused c =
-    let is = unit-refused c.args.body.now c.args.left c.args.at _ c.number_at-r.ensures c.in-Refused.is in
-    record { told = sym is; few = omega arith; clear = refl }
+pub returns : goal.returns
+returns c =
+    let a = c.args in
+    unit-given a.body.now a.left a.at _ c.number_at.ensures c.in_ok-value.was c.from_byte.ensures

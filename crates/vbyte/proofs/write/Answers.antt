@@ -1,18 +1,24 @@
--- `vbyte::write` meets its contract: the loop writes one number a turn. Assumes nothing.
-use Rattle.vbyte.proofs.Puts.{write-start, write-long, write-room, write-turn, write-end}
+-- What is still to be written, written from here on, makes the whole; a turn writes one number. Assumes nothing.
+use Rattle.std.proofs.Common.{arith}
+use Rattle.meaning.specs.VByte.{vbyte}
+use Rattle.leaves.proofs.Joined.{joined-rest, joined-past}
+use Rattle.leaves.proofs.Putting.{left-start, left-long, left-turn, left_end}
+use Rattle.vbyte.proofs.Laws.{most}
 use Rattle.vbyte.proofs.write.Goals as goal
 
-pub loop-i-init : goal.loop-i-init
-loop-i-init c = write-start _ c.requires
+pub loop-x-init : goal.loop-x-init
+loop-x-init c = left-start _ _ _
 
 pub put_number-to-requires : goal.put_number-to-requires
-put_number-to-requires c = write-room c.loop-i.invariant c.loop-i-test.true
+put_number-to-requires c = omega (arith, c.loop-x.invariant.ends, most c.args.list.now, c.requires.short)
 
-pub loop-i-preserved : goal.loop-i-preserved
-loop-i-preserved c = write-turn c.loop-i.invariant c.loop-i-test.true c.put_number-to.ensures
+pub loop-x-preserved : goal.loop-x-preserved
+loop-x-preserved c =
+    let l = c.loop-x in
+    left-turn l.invariant (joined-rest vbyte c.args.list.now 0 l.x-index c.loop-x-test.true) c.put_number-to.ensures
 
 pub shape_of-out : goal.shape_of-out
-shape_of-out c = write-long c.loop-i.invariant
+shape_of-out c = left-long c.loop-x.invariant
 
 pub returns : goal.returns
-returns c = write-end c.loop-i.invariant c.loop-i-test.false
+returns c = left_end c.loop-x.invariant (joined-past vbyte c.args.list.now c.loop-x.x-index c.loop-x-test.false)

@@ -1,10 +1,9 @@
--- `vbyte::write` meets its contract: the loop writes one number a turn. Assumes nothing.
-use Prim.Native.Nat.{◌-◌}
-use Rattle.vbyte.proofs.Puts.{Written}
+-- What is still to be written, written from here on, makes the whole. Assumes nothing.
+use Rattle.std.proofs.Common.{drop}
+use Rattle.meaning.specs.Lists.{joined}
+use Rattle.meaning.specs.VByte.{vbyte}
+use Rattle.leaves.proofs.Putting.{Left}
 use Rattle.vbyte.proofs.write.Given as goal
 
-abbrev pub invariant-loop-i : goal.invariant-loop-i
-invariant-loop-i l = Written l.list l.first l.n l.initial.to.byte l.initial.out l.out l.to l.i
-
-abbrev pub decreases-loop-i : goal.decreases-loop-i
-decreases-loop-i l = l.n - l.i
+abbrev pub invariant-loop-x : goal.invariant-loop-x
+invariant-loop-x l = Left (joined vbyte l.list) l.initial.to.byte l.initial.out (joined vbyte (drop l.x-index l.list)) l.out l.to.byte
