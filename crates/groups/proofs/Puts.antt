@@ -11,7 +11,7 @@ use Rattle.meaning.specs.Bytes.{bytes_of}
 use Rattle.meaning.specs.DataBytes.{byte_length, fewest, data_bytes}
 use Rattle.meaning.specs.Groups.{Grouping, fours, group_count, control_of, control, controls}
 use Rattle.meaning.specs.Limits.{unit_places}
-use Rattle.meaning.specs.Places.{Source, Wrote, part}
+use Rattle.meaning.specs.Places.{Wrote, part}
 use Rattle.meaning.specs.declared.Offset.{Offset}
 use Rattle.meaning.proofs.Tests.{by_order}
 use Rattle.words.proofs.DataBytes.{held, data-part, data-part-none}
@@ -73,9 +73,8 @@ module _ (xs : List ℕ) where
     groups-bound by = omega (arith, groups-size by (part xs from n), data-bound xs from n inside, part_length xs from n inside)
 
 -- a size that was told is that of what would be written
-pub size_is : (xs : List ℕ) (from n at : ℕ) {end : ℕ} (bytes : List ℕ) → from + n ≤ length xs → end ≡ at + size_of xs from n
-    → length bytes ≡ group_count (length (part xs from n)) + length (data_of xs from n) → end ≡ at + length bytes
-size_is xs from n at bytes inside e size = omega (arith, ap group_count (part_length xs from n inside))
+pub size_is : (xs : List ℕ) (at : ℕ) {end : ℕ} (bytes : List ℕ) → end ≡ at + size_of xs → length bytes ≡ size_of xs → end ≡ at + length bytes
+size_is xs at bytes e size = omega arith
 
 -- the group that a turn puts: its numbers are there, and no offset passes the largest number
 pub record Turn (g : Grouping) (xs : List ℕ) (from n to i k m : ℕ) : Type 0 where
@@ -86,11 +85,9 @@ pub record Turn (g : Grouping) (xs : List ℕ) (from n to i k m : ℕ) : Type 0 
   pub short : to + m + 4 * k < 2 ^ 63
 
 pub groups-room : {g : Grouping} → Fields g → (xs : List ℕ) {from n at : ℕ} {out₀ out : List ℕ} {to i : ℕ} → PutSo (groups_of g xs) from n at out₀ out to i
-    → Source xs from n at → i < n → (most k m : ℕ) → most ≡ g.most → most ≤ unit_places → k ≡ min most (n - i) → m ≡ (k + 3) / 4 → Turn g xs from n to i k m
+    → from + n ≤ length xs → at + 9 * n + 4 < 2 ^ 63 → i < n → (most k m : ℕ) → most ≡ g.most → most ≤ unit_places → k ≡ min most (n - i) → m ≡ (k + 3) / 4 → Turn g xs from n to i k m
 unfolding group_count
-groups-room {g} by xs {from} {n} {at} {i = i} so source more most k m full few next em =
-    let inside = source.inside in
-    let short = source.short in
+groups-room {g} by xs {from} {n} {at} {i = i} so inside short more most k m full few next em =
     let many : k ≡ min g.most (n - i) = next ∙ ap (λ (l : ℕ). min l (n - i)) full in
     let there = part_length xs (from + i) k (omega arith) in
     let turn = groups-turn xs (from + i) (n - i) (omega arith) (omega arith) by k many in

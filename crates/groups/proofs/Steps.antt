@@ -8,20 +8,24 @@ use native.Mathlib.Omega.{arith}
 use lib.Dec.{leb, eqb}
 use lib.ListN.{length, take, drop, set, replicate, length-append, length-drop}
 use lib.Seq.{drop-drop, set_at, take_at, drop_at}
+use Rattle.std.specs.Prelude.{Ok, Err}
 use borrow.Author.Tests.{le-leb, lt-leb, eq-eqb, ne_eqb, eqb-true, eqb-false}
 use Rattle.meaning.specs.Answer.{Answer, given, refused, bind, need}
 use Rattle.meaning.specs.Bytes.{number_of}
 use Rattle.meaning.specs.DataBytes.{byte_length, data_in}
-use Rattle.meaning.specs.Groups.{Grouping, group_count, lengths_in, group_in, group_from, group_at}
+use Rattle.meaning.specs.Groups.{Grouping, group_count, lengths_in, group_in, group_from, group_at, unit_groups, unit_stream}
 use Rattle.meaning.specs.Limits.{cut_short, broken, most_bytes, unit_places}
 use Rattle.meaning.specs.Lists.{sum}
 use Rattle.meaning.specs.Places.{UnitIs, part}
+use Rattle.meaning.specs.Says.{refusal_number}
 use Rattle.meaning.specs.declared.Position.{Position}
-use Rattle.meaning.specs.declared.Unit.TheVariants as unit
-use Rattle.meaning.specs.declared.UnitRead.{UnitRead}
+use Rattle.meaning.specs.declared.Refusal.{Refusal}
+use Rattle.meaning.specs.declared.Refusal.TheVariants.{CutShort, Broken}
 use Rattle.meaning.proofs.Answers.{not-given, bind-given, bind-cong}
 use Rattle.meaning.proofs.Tests.{by_order, by-test}
-use Rattle.groups.specs.Layouts.{Layout, size, unit_by}
+use Rattle.groups.specs.Layouts.{Layout, size, unit_by, layout_of, code_for}
+use Rattle.groups.specs.declared.group.Form.{Form}
+use Rattle.groups.specs.declared.group.Form.TheVariants.{Fours, Stream, Batches}
 use Rattle.groups.proofs.Controls.{quarter}
 
 -- ---- answers
@@ -227,16 +231,15 @@ abbrev pub fields_at : List ℕ → Position → ℕ → ℕ
 fields_at body p k = number_of (part body p.head.byte (group_count k))
 
 module _ (g : Layout) (body : List ℕ) (left : ℕ) (p : Position) where
-  same-refusal : {e : ℕ} {r : UnitRead} → unit_by g body left p ≡ refused e → UnitIs (refused e) r → UnitIs (unit_by g body left p) r
-  same-refusal is u = record { told = rw is u.told; few = u.few; clear = u.clear }
+  refuses : (e : Refusal) → unit_by g body left p ≡ refused (refusal_number e) → UnitIs (unit_by g body left p) (Err e)
+  refuses e is = record { told = sym is; few = λ u h. cc; clear = λ u h. cc }
 
   -- the control bytes are not there
-  pub reads_none : {k : ℕ} {r : UnitRead} → k ≡ size g left → length body - p.head.byte < group_count k → UnitIs (refused cut_short) r
-      → UnitIs (unit_by g body left p) r
+  pub reads_none : {k : ℕ} → k ≡ size g left → length body - p.head.byte < group_count k → UnitIs (unit_by g body left p) (Err CutShort)
   unfolding group_at
   reads_none {k} many h =
       let cut : length (drop p.head.byte body) < group_count k = rw (← (length-drop p.head.byte body)) at h in
-      same-refusal (rw (← many, lt-leb (group_count k) (length (drop p.head.byte body)) cut))
+      refuses CutShort (rw (← many, lt-leb (group_count k) (length (drop p.head.byte body)) cut) refl)
 
 -- the control bytes of a group of k numbers are there: c are their fields, and its data begins at an offset
 pub record Begun (g : Layout) (body : List ℕ) (left : ℕ) (p : Position) (k c from : ℕ) : Type 0 where
@@ -255,9 +258,8 @@ module _ {g : Layout} {body : List ℕ} {left : ℕ} {p : Position} where
       rw (← b.many, le-leb (group_count k) (length (drop p.head.byte body)) there, ← b.fields, ← b.start)
 
   -- but its data is not there
-  pub reads-cut : {k c from : ℕ} {r : UnitRead} → Begun g body left p k c from → length body - from < data_size g.group k c → UnitIs (refused cut_short) r
-      → UnitIs (unit_by g body left p) r
-  reads-cut {k} {c} {from} b h = same-refusal g body left p (unit-begun b ∙ rw (group-cut g.group body k c from h))
+  pub reads-cut : {k c from : ℕ} → Begun g body left p k c from → length body - from < data_size g.group k c → UnitIs (unit_by g body left p) (Err CutShort)
+  reads-cut {k} {c} {from} b h = refuses g body left p CutShort (unit-begun b ∙ rw (group-cut g.group body k c from h) refl)
 
 -- the loop that reads the group at p, whose data is there, has read i of its k numbers, which stand in the array
 pub record Reads (g : Layout) (body : List ℕ) (left : ℕ) (p : Position) (k i control to : ℕ) (numbers : List ℕ) : Type 0 where
@@ -288,9 +290,8 @@ reads-start {g} {body} {p = p} {k} b short room there =
 
 module _ {g : Layout} {body : List ℕ} {left : ℕ} {p : Position} where
   module _ {k i control to : ℕ} {numbers : List ℕ} (t : Reads g body left p k i control to numbers) where
-    group-broken : {r : UnitRead} → group_from g.group body k (fields_at body p k) (g.from (group_count k) p) ≡ refused broken
-        → UnitIs (refused broken) r → UnitIs (unit_by g body left p) r
-    group-broken e = same-refusal g body left p (unit-begun t.begun ∙ rw e)
+    group-broken : group_from g.group body k (fields_at body p k) (g.from (group_count k) p) ≡ refused broken → UnitIs (unit_by g body left p) (Err Broken)
+    group-broken e = refuses g body left p Broken (unit-begun t.begun ∙ rw e refl)
 
     more : i < k → So g.group body k (fields_at body p k) (g.from (group_count k) p) (suc (k - suc i)) control to t.done
     more h = let m : k - i ≡ suc (k - suc i) = omega arith in rw m at t.so
@@ -310,7 +311,7 @@ module _ {g : Layout} {body : List ℕ} {left : ℕ} {p : Position} where
       reads-fits = omega (arith, rest-there)
 
       module _ {x : ℕ} (ex : x ≡ number_of (take l (drop to body))) where
-        pub reads-long : {r : UnitRead} → (byte_length x ≡ l → ⊥) → UnitIs (refused broken) r → UnitIs (unit_by g body left p) r
+        pub reads-long : (byte_length x ≡ l → ⊥) → UnitIs (unit_by g body left p) (Err Broken)
         reads-long long = group-broken (so-long el ex (more h) (more-there h) long)
 
         pub reads-turn : byte_length x ≡ l → Reads g body left p k (i + 1) (control / 4) (to + l) (set numbers i x)
@@ -339,11 +340,11 @@ module _ {g : Layout} {body : List ℕ} {left : ℕ} {p : Position} where
       none : So g.group body k (fields_at body p k) (g.from (group_count k) p) 0 control to t.done
       none = let m : k - i ≡ 0 = omega arith in rw m at t.so
 
-      pub reads-used : {r : UnitRead} → (control ≡ 0 → ⊥) → UnitIs (refused broken) r → UnitIs (unit_by g body left p) r
+      pub reads-used : (control ≡ 0 → ⊥) → UnitIs (unit_by g body left p) (Err Broken)
       reads-used used = group-broken (so-used none used)
 
       pub reads_end : {q : Position} {m : ℕ} → control ≡ 0 → m ≡ group_count k → q ≡ g.next m p to
-          → UnitIs (unit_by g body left p) (record { unit = unit.Next q k; numbers = numbers })
+          → UnitIs (unit_by g body left p) (Ok (record { next = q; count = k; numbers = numbers }))
       reads_end last em next =
           let is : k ≡ i = omega (arith, t.most) in
           let many : length t.done ≡ k = t.counted ∙ sym is in
@@ -351,6 +352,16 @@ module _ {g : Layout} {body : List ℕ} {left : ℕ} {p : Position} where
           let taken : take k numbers ≡ t.done = ap (take k) t.here ∙ take_at t.done zeros k many in
           record {
             told = rw (unit-begun t.begun, so-end none last, next, em, taken);
-            few = t.room;
-            clear = ap (drop k) t.here ∙ drop_at t.done zeros k many ∙ rw is;
+            few = λ u e. let here : k ≡ u.count = cc in rw (← here) t.room;
+            clear = λ u e.
+                let n : k ≡ u.count = cc in
+                let here : numbers ≡ u.numbers = cc in
+                rw (← n, ← here) (ap (drop k) t.here ∙ drop_at t.done zeros k many ∙ rw is);
           }
+
+-- a form's units are those of its layout
+pub unit-for : (form : Form) (body : List ℕ) (left : ℕ) (p : Position) → (code_for form).unit body left p ≡ unit_by (layout_of form) body left p
+unfolding unit_groups unit_stream
+unit-for Fours body left p = refl
+unit-for Stream body left p = refl
+unit-for Batches body left p = refl

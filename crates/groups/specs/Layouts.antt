@@ -1,6 +1,7 @@
 -- Where groups stand in a body.
 use Rattle.std.specs.Prelude.{ℕ, ◌+◌, min, Bool, List, eqb, length}
 use Rattle.meaning.specs.Answer.{Answer, given, bind}
+use Rattle.meaning.specs.Codes.{Code, code_groups, code_stream, code_batches}
 use Rattle.meaning.specs.Groups.{Grouping, fours, batches, group_count, group_at}
 use Rattle.meaning.specs.Positions.{at_byte, at_control}
 use Rattle.meaning.specs.declared.Position.{Position}
@@ -35,6 +36,12 @@ abbrev pub layout_of : Form → Layout
 layout_of Fours = behind fours
 layout_of Stream = apart
 layout_of Batches = behind batches
+
+-- the code of each form
+abbrev pub code_for : Form → Code
+code_for Fours = code_groups
+code_for Stream = code_stream
+code_for Batches = code_batches
 
 abbrev pub to_tail : List ℕ → Position → Bool
 to_tail body p = eqb p.tail.byte (length body)

@@ -20,8 +20,8 @@ abbrev pub groups_of : Grouping → List ℕ → ℕ → ℕ → List ℕ
 groups_of g xs from m = write_groups g (part xs from m)
 
 -- how many bytes both are, however they stand
-abbrev pub size_of : List ℕ → ℕ → ℕ → ℕ
-size_of xs from m = group_count m + length (data_of xs from m)
+abbrev pub size_of : List ℕ → ℕ
+size_of xs = group_count (length xs) + length (data_bytes xs)
 
 -- the data of xs stands in an output from an offset on; r tells where it ends, their fields as groups of four have them, and one more than so many fields
 -- can be at most

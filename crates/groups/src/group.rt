@@ -1,6 +1,5 @@
 // One group read with all its rules, wherever its control bytes and its data stand in a body.
 ghost use Rattle.std.specs.Prelude.{◌≡◌, ◌<◌, ◌≤◌, ◌+◌, ◌-◌, ◌^◌, length};
-ghost use Rattle.meaning.specs.Answer.{refused};
 ghost use Rattle.meaning.specs.Bytes.{number_of};
 ghost use Rattle.meaning.specs.Groups.{lengths_in};
 ghost use Rattle.meaning.specs.Limits.{most_bytes, unit_places};
@@ -9,7 +8,7 @@ ghost use Rattle.meaning.specs.Places.{UnitIs, part};
 ghost use Rattle.groups.specs.Layouts.{layout_of, unit_by};
 
 use leaves::{from_byte, lesser, whole};
-use meaning::{BROKEN, Bit, CUT_SHORT, Offset, Position, Unit, UnitRead};
+use meaning::{Bit, Offset, Position, Refusal, UnitRead};
 use words::{byte_length, number_at};
 
 // The codes of groups: a group's data stands behind its control bytes (2, and 7 with batches of 16), or apart from them, after all control bytes (4).
@@ -96,16 +95,6 @@ fn next_of(at: Position, form: Form, bytes: usize, end: Offset) -> Position
     }
 }
 
-fn refusal(number: u8) -> UnitRead
-    ensures { UnitIs (refused number) result }
-{
-    let numbers = [0u32; 16];
-    UnitRead {
-        unit: Unit::Refused(number),
-        numbers,
-    }
-}
-
 // How many bytes of data the first so many fields say.
 fn data_size(form: Form, count: usize, fields: usize) -> usize
     requires { count ≤ unit_places }
@@ -124,7 +113,7 @@ fn data_size(form: Form, count: usize, fields: usize) -> usize
 
 // The group at a position, where so many numbers are still to come: its data is there before any of its rules is asked. A field that is not used is not
 // read: it must be 0.
-pub fn group_at(body: &[u8], left: usize, at: Position, form: Form) -> UnitRead
+pub fn group_at(body: &[u8], left: usize, at: Position, form: Form) -> Result<UnitRead, Refusal>
     requires { length body.now ≤ most_bytes }
     ensures { UnitIs (unit_by (layout_of form) body.now left at) result }
 {
@@ -132,12 +121,12 @@ pub fn group_at(body: &[u8], left: usize, at: Position, form: Form) -> UnitRead
     let count = lesser(most_of(form), left);
     let bytes = (count + 3) / 4;
     if bytes_from(body.len(), head) < bytes {
-        return refusal(CUT_SHORT);
+        return Err(Refusal::CutShort);
     }
     let start = data_of(at, form, bytes);
     let mut control = fields_at(body, head, bytes);
     if bytes_from(body.len(), start) < data_size(form, count, control) {
-        return refusal(CUT_SHORT);
+        return Err(Refusal::CutShort);
     }
     let mut to = start.byte;
     let mut numbers = [0u32; 16];
@@ -146,7 +135,7 @@ pub fn group_at(body: &[u8], left: usize, at: Position, form: Form) -> UnitRead
         let len = length_of(form, control % 4);
         let x = number_at(body, Offset { byte: to }, len);
         if byte_length(x) != len {
-            return refusal(BROKEN);
+            return Err(Refusal::Broken);
         }
         numbers[i] = x;
         control = control / 4;
@@ -154,11 +143,12 @@ pub fn group_at(body: &[u8], left: usize, at: Position, form: Form) -> UnitRead
         i += 1;
     }
     if control != 0 {
-        return refusal(BROKEN);
+        return Err(Refusal::Broken);
     }
     let next = next_of(at, form, bytes, Offset { byte: to });
-    UnitRead {
-        unit: Unit::Next(next, count),
+    Ok(UnitRead {
+        next,
+        count,
         numbers,
-    }
+    })
 }

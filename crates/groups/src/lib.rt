@@ -3,54 +3,55 @@
 #![tactic(auto)]
 
 ghost use Rattle.std.specs.Prelude.{◌≡◌, ◌+◌, ◌≤◌, length};
-ghost use Rattle.meaning.specs.Codes.{code_groups, code_stream, code_batches};
+ghost use Rattle.meaning.specs.Codes.{code_stream};
+ghost use Rattle.meaning.specs.Groups.{write_groups};
 ghost use Rattle.meaning.specs.Limits.{most_bytes};
-ghost use Rattle.meaning.specs.Places.{Source, Wrote, UnitIs, part};
-ghost use Rattle.groups.specs.Layouts.{layout_of};
-ghost use Rattle.groups.specs.Parts.{groups_of, size_of};
+ghost use Rattle.meaning.specs.Places.{Source, Wrote, UnitIs};
+ghost use Rattle.groups.specs.Layouts.{layout_of, code_for};
+ghost use Rattle.groups.specs.Parts.{size_of};
 
-use crate::group::{Form, group_at, most_of};
+use crate::group::{group_at, most_of};
 use crate::put::{fields_by, put_controls, put_fielded};
 use leaves::lesser;
-use meaning::{Offset, Place, Position, UnitRead};
+use meaning::{Offset, Place, Position, Refusal, UnitRead};
 use words::{data_length, put_data, put_number};
 
 mod group;
 mod put;
 mod whole;
 
-pub use whole::{take_batches, take_groups, take_stream};
+pub use group::Form;
+pub use whole::take;
 
-// The offset after n numbers in groups. Where nothing of them lies within the output, that is all there is to do.
-fn offset_after(list: &[u32], from: Place, n: usize, at: Offset) -> Offset
-    requires { Source list.now from.number n at.byte }
-    ensures { result.byte ≡ at.byte + size_of list.now from.number n }
+// The offset after the numbers of a list in groups. Where nothing of them lies within the output, that is all there is to do.
+fn offset_after(list: &[u32], at: Offset) -> Offset
+    requires { Source list.now at.byte }
+    ensures { result.byte ≡ at.byte + size_of list.now }
 {
     let start = at.byte;
-    let controls = (n + 3) / 4;
-    let data = data_length(list, from, n);
+    let controls = (list.len() + 3) / 4;
+    let data = data_length(list);
     let end = start + controls + data;
     Offset { byte: end }
 }
 
-// Writes n numbers of a list in groups, each with its control bytes before its data, and answers the offset after them.
-fn write_by(form: Form, list: &[u32], from: Place, n: usize, out: &mut [u8], at: Offset) -> Offset
-    requires { Source list.now from.number n at.byte }
-    ensures { Wrote (groups_of (layout_of form).group list.now from.number n) at.byte out.old out.new result }
+// Writes the numbers of a list in groups, each with its control bytes before its data, and answers the offset after them.
+fn write_by(form: Form, list: &[u32], out: &mut [u8], at: Offset) -> Offset
+    requires { Source list.now at.byte }
+    ensures { Wrote (write_groups (layout_of form).group list.now) at.byte out.old out.new result }
 {
     if out.len() <= at.byte {
-        return offset_after(list, from, n, at);
+        return offset_after(list, at);
     }
-    let first = from.number;
+    let n = list.len();
     let most = most_of(form);
     let mut to = at;
     let mut i: usize = 0;
     while i < n {
         let k = lesser(most, n - i);
         let bytes = (k + 3) / 4;
-        let place = first + i;
         let data = to.byte + bytes;
-        let laid = put_fielded(list, Place { number: place }, k, out, Offset { byte: data });
+        let laid = put_fielded(list, Place { number: i }, k, out, Offset { byte: data });
         put_number(out, to, fields_by(form, laid.fields, laid.scale), bytes);
         to = laid.end;
         i += k;
@@ -58,54 +59,34 @@ fn write_by(form: Form, list: &[u32], from: Place, n: usize, out: &mut [u8], at:
     to
 }
 
-// Writes n numbers of a list in groups of four, and answers the offset after them.
-pub fn write_groups(list: &[u32], from: Place, n: usize, out: &mut [u8], at: Offset) -> Offset
-    requires { Source list.now from.number n at.byte }
-    ensures { Wrote (code_groups.write (part list.now from.number n)) at.byte out.old out.new result }
-{
-    write_by(Form::Fours, list, from, n, out, at)
-}
-
-// Writes n numbers of a list in batches of 16, and answers the offset after them.
-pub fn write_batches(list: &[u32], from: Place, n: usize, out: &mut [u8], at: Offset) -> Offset
-    requires { Source list.now from.number n at.byte }
-    ensures { Wrote (code_batches.write (part list.now from.number n)) at.byte out.old out.new result }
-{
-    write_by(Form::Batches, list, from, n, out, at)
-}
-
-// Writes n numbers of a list in Stream VByte, and answers the offset after them.
-pub fn write_stream(list: &[u32], from: Place, n: usize, out: &mut [u8], at: Offset) -> Offset
-    requires { Source list.now from.number n at.byte }
-    ensures { Wrote (code_stream.write (part list.now from.number n)) at.byte out.old out.new result }
+// Writes the numbers of a list in Stream VByte, and answers the offset after them.
+fn write_stream(list: &[u32], out: &mut [u8], at: Offset) -> Offset
+    requires { Source list.now at.byte }
+    ensures { Wrote (code_stream.write list.now) at.byte out.old out.new result }
 {
     if out.len() <= at.byte {
-        return offset_after(list, from, n, at);
+        return offset_after(list, at);
     }
-    let start = put_controls(list, from, n, out, at);
-    put_data(list, from, n, out, start)
+    let start = put_controls(list, Place { number: 0 }, list.len(), out, at);
+    put_data(list, out, start)
 }
 
-// Reads the group at a position of code 2.
-pub fn unit_groups(body: &[u8], left: usize, at: Position) -> UnitRead
-    requires { length body.now ≤ most_bytes }
-    ensures { UnitIs (code_groups.unit body.now left at) result }
+// Writes the numbers of a list, and answers the offset after them.
+pub fn write(form: Form, list: &[u32], out: &mut [u8], at: Offset) -> Offset
+    requires { Source list.now at.byte }
+    ensures { Wrote ((code_for form).write list.now) at.byte out.old out.new result }
 {
-    group_at(body, left, at, Form::Fours)
+    match form {
+        Form::Fours => write_by(form, list, out, at),
+        Form::Stream => write_stream(list, out, at),
+        Form::Batches => write_by(form, list, out, at),
+    }
 }
 
-// Reads the group at a position of code 4.
-pub fn unit_stream(body: &[u8], left: usize, at: Position) -> UnitRead
+// Reads the unit at a position: a group, or in code 7 a batch.
+pub fn unit(form: Form, body: &[u8], left: usize, at: Position) -> Result<UnitRead, Refusal>
     requires { length body.now ≤ most_bytes }
-    ensures { UnitIs (code_stream.unit body.now left at) result }
+    ensures { UnitIs ((code_for form).unit body.now left at) result }
 {
-    group_at(body, left, at, Form::Stream)
-}
-
-// Reads the batch at a position of code 7.
-pub fn unit_batches(body: &[u8], left: usize, at: Position) -> UnitRead
-    requires { length body.now ≤ most_bytes }
-    ensures { UnitIs (code_batches.unit body.now left at) result }
-{
-    group_at(body, left, at, Form::Batches)
+    group_at(body, left, at, form)
 }

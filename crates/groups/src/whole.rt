@@ -4,9 +4,10 @@ ghost use Rattle.std.specs.Prelude.{◌≡◌, ◌+◌, ◌<◌, ◌≤◌, leng
 ghost use Rattle.meaning.specs.Bytes.{number_of};
 ghost use Rattle.meaning.specs.Codes.{code_groups, code_stream, code_batches};
 ghost use Rattle.meaning.specs.Places.{Target, Took};
+ghost use Rattle.groups.specs.Layouts.{code_for};
 ghost use Rattle.groups.specs.Whole.{largest_numbers, Room, GroupTaken, Places, BatchTaken};
 
-use crate::group::bytes_from;
+use crate::group::{Form, bytes_from};
 use leaves::{from_byte, lay, lesser, taken, whole, wide};
 use meaning::{Bit, Offset, Place, Position, Taken};
 use words::word_at;
@@ -73,7 +74,7 @@ fn take_whole(
 }
 
 // Code 2: takes whole groups from a position on into work, as far as they are plain and there is room for them.
-pub fn take_groups(
+fn take_groups(
     body: &[u8],
     left: usize,
     at: Position,
@@ -125,7 +126,7 @@ pub fn take_groups(
 
 // Code 4: takes whole groups from a position on into work, as far as they are plain and there is room for them. A position whose data stands before
 // its control byte is not plain.
-pub fn take_stream(
+fn take_stream(
     body: &[u8],
     left: usize,
     at: Position,
@@ -227,7 +228,7 @@ fn take_batch(
 }
 
 // Code 7: takes whole batches from a position on into work, as far as they are plain and there is room for them.
-pub fn take_batches(
+fn take_batches(
     body: &[u8],
     left: usize,
     at: Position,
@@ -258,4 +259,24 @@ pub fn take_batches(
         units += 1;
     }
     taken(at, 16 * units, units, 0, from_byte(Offset { byte: to }))
+}
+
+// Takes whole units from a position on into work, as far as they are plain and there is room for them.
+pub fn take(
+    form: Form,
+    body: &[u8],
+    left: usize,
+    at: Position,
+    work: &mut [u32],
+    from: Place,
+    room: usize,
+) -> Taken
+    requires { Target body.now work.old from.number room }
+    ensures { Took (code_for form) body.now left at room from.number work.old work.new result }
+{
+    match form {
+        Form::Fours => take_groups(body, left, at, work, from, room),
+        Form::Stream => take_stream(body, left, at, work, from, room),
+        Form::Batches => take_batches(body, left, at, work, from, room),
+    }
 }

@@ -9,7 +9,7 @@ use Rattle.groups.proofs.write_by.Given as goal
 
 abbrev pub invariant-loop-i : goal.invariant-loop-i
 invariant-loop-i l =
-    PutSo (groups_of (layout_of l.form).group l.list) l.first l.n l.initial.to.byte l.initial.out l.out l.to.byte l.i
+    PutSo (groups_of (layout_of l.form).group l.list) 0 l.n l.initial.to.byte l.initial.out l.out l.to.byte l.i
     × (l.most ≡ (layout_of l.form).group.most) × (l.most ≤ unit_places)
 
 abbrev pub decreases-loop-i : goal.decreases-loop-i

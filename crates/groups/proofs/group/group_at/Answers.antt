@@ -18,7 +18,7 @@ pub returns-then-bytes_from-bytes : goal.returns-then-bytes_from-bytes
 unfolding group_count
 returns-then-bytes_from-bytes c =
     let a = c.args in
-    reads_none (layout_of a.form) a.body.now a.left a.at (many a.form a.left c.most_of.ensures c.lesser-count.ensures) (omega arith) c.refusal.ensures
+    reads_none (layout_of a.form) a.body.now a.left a.at (many a.form a.left c.most_of.ensures c.lesser-count.ensures) (omega arith)
 
 pub returns-then-bytes_from-data_size : goal.returns-then-bytes_from-data_size
 unfolding group_count
@@ -30,7 +30,7 @@ returns-then-bytes_from-data_size c =
       fields = c.fields_at-control.ensures;
       start = c.data_of-start.ensures;
     } in
-    reads-cut b (omega arith) c.refusal-then-bytes_from-data_size.ensures
+    reads-cut b (omega arith)
 
 pub loop-i-init : goal.loop-i-init
 unfolding group_count
@@ -52,7 +52,7 @@ number_at-x-requires c =
 pub returns-then-byte_length-len : goal.returns-then-byte_length-len
 returns-then-byte_length-len c =
     reads-long c.loop-i.invariant c.loop-i-test.true c.length_of-len.ensures.0 c.number_at-x.ensures
-    (λ e. c.if-byte_length-len.true (c.byte_length.ensures ∙ e)) c.refusal-then-byte_length-len.ensures
+    (λ e. c.if-byte_length-len.true (c.byte_length.ensures ∙ e))
 
 pub overflow_add-to : goal.overflow_add-to
 overflow_add-to c =
@@ -69,7 +69,7 @@ loop-i-preserved c =
 
 pub returns-then-control-ne0 : goal.returns-then-control-ne0
 returns-then-control-ne0 c =
-    reads-used c.loop-i.invariant c.loop-i-test.false c.if-control-ne0.true c.refusal-then-control-ne0.ensures
+    reads-used c.loop-i.invariant c.loop-i-test.false c.if-control-ne0.true
 
 pub returns : goal.returns
 unfolding group_count

@@ -1,7 +1,0 @@
--- A batch by this code's layout. Assumes nothing.
-use Rattle.meaning.specs.Groups.{unit_groups}
-use Rattle.groups.proofs.unit_batches.Goals as goal
-
-pub returns : goal.returns
-unfolding unit_groups
-returns c = c.group_at.ensures
