@@ -8,55 +8,55 @@ ghost use Rattle.meaning.specs.Bits.{low_bits};
 ghost use Rattle.meaning.specs.Promises.{Ranks, Selects};
 ghost use Rattle.meaning.specs.Limits.{no_place};
 ghost use Rattle.meaning.specs.Rank.{one_at};
-ghost use Rattle.meaning.specs.Says.{selected_says};
+ghost use Rattle.meaning.specs.Says.{says_by, bit_told};
 
-use meaning::{Bit, MOST_BYTES, NO_PLACE, NO_SHEET, Offset, Ranked, Selected};
+use meaning::{Bit, MOST_BYTES, Offset, Refusal};
 use words_of::{bit_in, ones_in, pass_words, word_near};
 
 // How many ones stand before a bit: those of the words before its own, and those below it in its own.
-pub fn rank(bytes: &[u8], bit: Bit) -> Ranked
+pub fn rank(bytes: &[u8], bit: Bit) -> Result<usize, Refusal>
     ensures { Ranks bytes.now bit.index result }
 {
     let len = bytes.len();
     if MOST_BYTES < len {
-        return Ranked::Refused(NO_SHEET);
+        return Err(Refusal::NoSheet);
     }
     let index = bit.index;
     if 8 * len < index {
-        return Ranked::Refused(NO_PLACE);
+        return Err(Refusal::NoPlace);
     }
     let words = index / 64;
     let before = ones_in(bytes, Offset { byte: 0 }, words);
     let own = word_near(bytes, Offset { byte: 8 * words });
     let below = own % (1 << (index % 64));
     let ones = before + u64::count_ones(below) as usize;
-    Ranked::Ones(ones)
+    Ok(ones)
 }
 
 // The bit of the k-th one in so many words from an offset on, counted from the offset's first bit. Every word is counted, so that the cost does not
 // depend on k.
-pub fn one_in(bytes: &[u8], from: Offset, words: usize, k: usize) -> Selected
+pub fn one_in(bytes: &[u8], from: Offset, words: usize, k: usize) -> Result<Bit, Refusal>
     requires { from.byte + 8 * words < 2 ^ 32 }
-    ensures { selected_says result ≡ one_at no_place k (take (64 * words) (low_bits (drop from.byte bytes.now))) }
+    ensures { says_by bit_told result ≡ one_at no_place k (take (64 * words) (low_bits (drop from.byte bytes.now))) }
 {
     let passed = pass_words(bytes, from, words, k);
     let before = passed.words;
     if before == words {
-        return Selected::Refused(NO_PLACE);
+        return Err(Refusal::NoPlace);
     }
     let byte = from.byte + 8 * before;
     let word = word_near(bytes, Offset { byte });
     let index = 64 * before + bit_in(word, k - passed.ones);
-    Selected::At(Bit { index })
+    Ok(Bit { index })
 }
 
 // The bit of the k-th one: stretches of 8 words are passed until one holds it.
-pub fn select(bytes: &[u8], k: usize) -> Selected
+pub fn select(bytes: &[u8], k: usize) -> Result<Bit, Refusal>
     ensures { Selects bytes.now k result }
 {
     let len = bytes.len();
     if MOST_BYTES < len {
-        return Selected::Refused(NO_SHEET);
+        return Err(Refusal::NoSheet);
     }
     let mut byte: usize = 0;
     let mut left = k;
@@ -64,14 +64,12 @@ pub fn select(bytes: &[u8], k: usize) -> Selected
         let from = Offset { byte };
         let ones = ones_in(bytes, from, 8);
         if left < ones {
-            let Selected::At(bit) = one_in(bytes, from, 8, left) else {
-                return Selected::Refused(NO_PLACE);
-            };
+            let bit = one_in(bytes, from, 8, left)?;
             let index = 8 * byte + bit.index;
-            return Selected::At(Bit { index });
+            return Ok(Bit { index });
         }
         left -= ones;
         byte += 64;
     }
-    Selected::Refused(NO_PLACE)
+    Err(Refusal::NoPlace)
 }

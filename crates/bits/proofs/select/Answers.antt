@@ -1,7 +1,7 @@
 -- `select` passes stretches of 8 words, and finds the bit in the one that holds it (`SelectSo`). Assumes nothing.
 use mathlib.Core.Path.{sym, ap, ◌∙◌}
 use native.Mathlib.Omega.{arith}
-use Rattle.meaning.specs.Says.{selected_says}
+use Rattle.meaning.specs.Says.{says_by, bit_told}
 use Rattle.bits.proofs.Asked.{select-long}
 use Rattle.bits.proofs.Selecting.{select-start, select-turn, select-inside, select-found, select-holds, select-end}
 use Rattle.bits.proofs.select.Goals as goal
@@ -21,10 +21,10 @@ one_in-requires c =
     omega (arith, so.short, so.near)
 
 -- a stretch with enough ones holds the one that is looked for
-pub returns-in_default : goal.returns-in_default
-returns-in_default c =
+pub returns-in_err-bit : goal.returns-in_err-bit
+returns-in_err-bit c =
     absurd (select-holds c.loop-byte.invariant c.ones_in-ones.ensures c.if-left-ones.true
-    (sym c.one_in.ensures ∙ ap selected_says c.in_default.is))
+    (sym c.one_in.ensures ∙ ap (says_by bit_told) c.in_err-bit.was))
 
 pub overflow_mul-index : goal.overflow_mul-index
 overflow_mul-index c =
@@ -34,10 +34,10 @@ overflow_mul-index c =
 pub overflow_add-index : goal.overflow_add-index
 overflow_add-index c =
     let so = c.loop-byte.invariant in
-    omega (arith, so.short, select-inside so (sym c.one_in.ensures ∙ ap selected_says c.in-At.is))
+    omega (arith, so.short, select-inside so (sym c.one_in.ensures ∙ ap (says_by bit_told) c.in_ok-bit.was))
 
 pub returns-then-left-ones : goal.returns-then-left-ones
-returns-then-left-ones c = select-found c.loop-byte.invariant (sym c.one_in.ensures ∙ ap selected_says c.in-At.is)
+returns-then-left-ones c = select-found c.loop-byte.invariant (sym c.one_in.ensures ∙ ap (says_by bit_told) c.in_ok-bit.was)
 
 pub overflow_add-byte : goal.overflow_add-byte
 overflow_add-byte c =
