@@ -8,17 +8,19 @@ use lib.Count.{count_leading_zeros}
 use lib.Dec.{leb}
 use lib.ListN.{length, take, drop, length-drop}
 use lib.Seq.{take-add, drop_at, drop-drop, length-take-le, take-append-le}
+use Rattle.std.specs.Prelude.{Option, None, Some, Result, Ok, Err}
+use Rattle.std.specs.Result.{result_ok}
 use Rattle.meaning.specs.Answer.{Answer, given, need}
 use Rattle.meaning.specs.Bits.{bits_high, bits_of, number_high}
 use Rattle.meaning.specs.Elias.{gamma_in, gamma_word, delta_word}
 use Rattle.meaning.specs.Limits.{broken, number_limit}
-use Rattle.meaning.proofs.Answers.{not-given}
 use Rattle.meaning.proofs.Bounds.{below-drop}
 use Rattle.elias.specs.Padded.{padded}
-use Rattle.elias.specs.Says.{word_says, Gives}
+use Rattle.meaning.specs.Says.{says_by}
+use Rattle.meaning.specs.declared.Refusal.{Refusal}
+use Rattle.elias.specs.Says.{codeword_told, Gives}
 use Rattle.elias.specs.Seen.{Seen}
 use Rattle.elias.specs.declared.word.Codeword.{Codeword}
-use Rattle.elias.specs.declared.word.Codeword.TheVariants.{Refused}
 use Rattle.elias.proofs.Gamma.{gamma-back}
 use Rattle.elias.proofs.Numbers.{high-length}
 use Rattle.elias.proofs.Pack.{bits_left, bits_below}
@@ -26,12 +28,19 @@ use Rattle.elias.proofs.Seen.{seen_value, seen-behind, behind-further, delta-val
 use Rattle.elias.proofs.Windows.{shl-drop, top-list}
 
 -- ---- what a quick look gives
--- all that is told is given
-pub told-gives : {r : Codeword} {a : Answer (ℕ × ℕ)} → word_says r ≡ a → Gives r a
-told-gives told = record { value = λ e. sym told ∙ ap word_says e }
+-- the codeword that is given, none at all, and what another reading gives
+pub gives : {w : Codeword} {a : Answer (ℕ × ℕ)} → given (codeword_told w) ≡ a → Gives (Some w) a
+gives {w} told = record { value = λ v e. let same : w ≡ v = cc in sym told ∙ ap (λ (u : Codeword). given (codeword_told u)) same }
 
-pub stops : {e : ℕ} {a : Answer (ℕ × ℕ)} → Gives (Refused e) a
-stops {e} = record { value = λ r. absurd (not-given e _ (ap word_says r)) }
+pub stops : {a : Answer (ℕ × ℕ)} → Gives None a
+stops = record { value = λ w e. absurd (nothing e) }
+  where
+    nothing : {w : Codeword} → ◌≡◌ {A = Option Codeword} None (Some w) → ⊥
+    nothing e = cc
+
+pub given-ok : (r : Result Codeword Refusal) {a : Answer (ℕ × ℕ)} → says_by codeword_told r ≡ a → Gives (result_ok r) a
+given-ok (Ok w) told = gives told
+given-ok (Err e) told = stops
 
 -- a value that is not too large is told
 told-small : {most v k : ℕ} {a : Answer (ℕ × ℕ)} → need (leb v most) broken (given (v, k)) ≡ a → v ≤ most → given (v, k) ≡ a

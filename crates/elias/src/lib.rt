@@ -7,154 +7,79 @@ mod output;
 mod word;
 
 ghost use Rattle.std.specs.Prelude.{◌≡◌, ◌≤◌, length};
-ghost use Rattle.meaning.specs.Codes.{code_gamma, code_delta};
 ghost use Rattle.meaning.specs.Elias.{done_elias};
 ghost use Rattle.meaning.specs.Limits.{most_bytes};
-ghost use Rattle.meaning.specs.Places.{part, Source, Wrote, UnitIs, Target, Took};
+ghost use Rattle.meaning.specs.Places.{Source, Wrote, UnitIs, Target, Took};
 ghost use Rattle.elias.specs.Says.{code_with};
 
 use crate::input::{peek, top};
 use crate::inside::quick_word;
 use crate::output::{Pending, finish, push_word};
-use crate::word::{Codeword, Form, word_at};
-use leaves::{from_bit, lesser, taken};
-use meaning::{Bit, Offset, Place, Position, Taken, Unit, UnitRead};
+use crate::word::word_at;
+use leaves::{from_bit, taken};
+use meaning::{Bit, Offset, Place, Position, Refusal, Taken, UnitRead};
+pub use word::Form;
 
-// The codeword at a position, by its form.
-fn unit(body: &[u8], at: Position, form: Form) -> UnitRead
+// The codeword at a position.
+pub fn unit(form: Form, body: &[u8], left: usize, at: Position) -> Result<UnitRead, Refusal>
     requires { length body.now ≤ most_bytes }
-    ensures { UnitIs ((code_with form).unit body.now 0 at) result }
+    ensures { UnitIs ((code_with form).unit body.now left at) result }
 {
-    let mut numbers = [0u32; 16];
     let bit = at.bit;
-    let w = word_at(body, bit, form);
-    match w {
-        Codeword::Value(v, size) => {
-            numbers[0] = (v - 1) as u32;
-            let index = bit.index + size;
-            let next = from_bit(Bit { index });
-            UnitRead {
-                unit: Unit::Next(next, 1),
-                numbers,
-            }
-        }
-        Codeword::Refused(e) => UnitRead {
-            unit: Unit::Refused(e),
-            numbers,
-        },
-    }
+    let word = word_at(body, bit, form)?;
+    let mut numbers = [0u32; 16];
+    numbers[0] = (word.value - 1) as u32;
+    let index = bit.index + word.size;
+    let next = from_bit(Bit { index });
+    Ok(UnitRead {
+        next,
+        count: 1,
+        numbers,
+    })
 }
 
 // Takes codewords from a position on, into work from a place on, and stops at one that would be refused. The compiler makes a loop for each form.
-fn take(
+pub fn take(
+    form: Form,
     body: &[u8],
     left: usize,
     at: Position,
     work: &mut [u32],
     from: Place,
     room: usize,
-    form: Form,
 ) -> Taken
     requires { Target body.now work.old from.number room }
     ensures { Took (code_with form) body.now left at room from.number work.old work.new result }
 {
     let first = from.number;
-    let most = lesser(left, room);
+    let most = left.min(room);
     let mut index = at.bit.index;
-    let mut i: usize = 0;
-    while i < most {
-        let w = quick_word(body, Bit { index }, form);
-        let Codeword::Value(v, size) = w else {
+    for i in 0..most {
+        let Some(word) = quick_word(body, Bit { index }, form) else {
             return taken(at, i, i, 0, from_bit(Bit { index }));
         };
-        work[first + i] = (v - 1) as u32;
-        index += size;
-        i += 1;
+        work[first + i] = (word.value - 1) as u32;
+        index += word.size;
     }
-    taken(at, i, i, 0, from_bit(Bit { index }))
+    taken(at, most, most, 0, from_bit(Bit { index }))
 }
 
-// Writes the codewords of n numbers from a place of a list on, from an offset of an output on.
-fn write(list: &[u32], from: Place, n: usize, out: &mut [u8], at: Offset, form: Form) -> Offset
-    requires { Source list.now from.number n at.byte }
-    ensures { Wrote ((code_with form).write (part list.now from.number n)) at.byte out.old out.new result }
+// Writes the codewords of a list from an offset of an output on.
+pub fn write(form: Form, list: &[u32], out: &mut [u8], at: Offset) -> Offset
+    requires { Source list.now at.byte }
+    ensures { Wrote ((code_with form).write list.now) at.byte out.old out.new result }
 {
-    let first = from.number;
     let mut wait = Pending {
         at,
         bits: 0,
         count: 0,
     };
-    let mut i: usize = 0;
-    while i < n {
+    for &x in list {
         // v may be 2^32: nothing is added in 32 bits
-        let v = list[first + i] as u64 + 1;
+        let v = u64::from(x) + 1;
         wait = push_word(out, wait, v, form);
-        i += 1;
     }
     finish(out, wait)
-}
-
-// Writes n numbers in gamma.
-pub fn write_gamma(list: &[u32], from: Place, n: usize, out: &mut [u8], at: Offset) -> Offset
-    requires { Source list.now from.number n at.byte }
-    ensures { Wrote (code_gamma.write (part list.now from.number n)) at.byte out.old out.new result }
-{
-    write(list, from, n, out, at, Form::Gamma)
-}
-
-// Writes n numbers in delta.
-pub fn write_delta(list: &[u32], from: Place, n: usize, out: &mut [u8], at: Offset) -> Offset
-    requires { Source list.now from.number n at.byte }
-    ensures { Wrote (code_delta.write (part list.now from.number n)) at.byte out.old out.new result }
-{
-    write(list, from, n, out, at, Form::Delta)
-}
-
-// The codeword in gamma at a position.
-pub fn unit_gamma(body: &[u8], left: usize, at: Position) -> UnitRead
-    requires { length body.now ≤ most_bytes }
-    ensures { UnitIs (code_gamma.unit body.now left at) result }
-{
-    unit(body, at, Form::Gamma)
-}
-
-// The codeword in delta at a position.
-pub fn unit_delta(body: &[u8], left: usize, at: Position) -> UnitRead
-    requires { length body.now ≤ most_bytes }
-    ensures { UnitIs (code_delta.unit body.now left at) result }
-{
-    unit(body, at, Form::Delta)
-}
-
-// Takes numbers in gamma from a position on into work from a place on.
-pub fn take_gamma(
-    body: &[u8],
-    left: usize,
-    at: Position,
-    work: &mut [u32],
-    from: Place,
-    room: usize,
-) -> Taken
-    requires { Target body.now work.old from.number room }
-    ensures { Took code_gamma body.now left at room from.number work.old work.new result }
-{
-    take(body, left, at, work, from, room, Form::Gamma)
-}
-
-// Takes numbers in delta from a position on into work from a place on.
-pub fn take_delta(
-    body: &[u8],
-    left: usize,
-    at: Position,
-    work: &mut [u32],
-    from: Place,
-    room: usize,
-) -> Taken
-    requires { Target body.now work.old from.number room }
-    ensures { Took code_delta body.now left at room from.number work.old work.new result }
-{
-    take(body, left, at, work, from, room, Form::Delta)
 }
 
 // Nothing is left from a position on but spare bits, which are 0.

@@ -1,10 +1,6 @@
 -- `take` meets its contract, by what its loop knows. Assumes nothing.
-use Prim.Native.Nat.{◌-◌}
 use Rattle.elias.proofs.Taking.{Taking}
 use Rattle.elias.proofs.take.Given as goal
 
 abbrev pub invariant-loop-i : goal.invariant-loop-i
 invariant-loop-i l = Taking l.form l.body l.left l.at l.initial.work l.first l.most l.work l.i l.index
-
-abbrev pub decreases-loop-i : goal.decreases-loop-i
-decreases-loop-i l = l.most - l.i

@@ -9,7 +9,7 @@ use Rattle.meaning.specs.Bits.{bits_high, bits_of}
 use Rattle.meaning.specs.Limits.{most_bytes}
 use Rattle.elias.specs.Padded.{padded}
 use Rattle.elias.specs.Seen.{Seen}
-use Rattle.elias.proofs.Looks.{told-gives, length_some, delta-fits, delta-inside}
+use Rattle.elias.proofs.Looks.{gives, length_some, delta-fits, delta-inside}
 use Rattle.elias.proofs.inside.quick_delta.Goals as goal
 
 looked : {body : List ℕ} {p s : ℕ} → length body ≤ most_bytes → p / 8 + 8 ≤ length body → count_leading_zeros 64 s ≤ 5 → s < 2 ^ 64
@@ -21,12 +21,12 @@ overflow_sub-rest c =
     let seen = looked c.requires c.if-body-at.false c.if-z-gt5.false (omega arith) c.peek_inside-seen.ensures in
     length_some seen c.top-long.ensures c.if-long-gt33.false
 
-pub overflow_add-v : goal.overflow_add-v
-overflow_add-v c =
+pub overflow_add-value : goal.overflow_add-value
+overflow_add-value c =
     let seen = looked c.requires c.if-body-at.false c.if-z-gt5.false (omega arith) c.peek_inside-seen.ensures in
     record { fits = delta-fits seen c.top-long.ensures c.if-long-gt33.false c.top.ensures }
 
 pub returns : goal.returns
 returns c =
     let seen = looked c.requires c.if-body-at.false c.if-z-gt5.false (omega arith) c.peek_inside-seen.ensures in
-    told-gives (delta-inside seen c.top-long.ensures c.if-long-gt33.false c.top.ensures c.if-v-gt4294967296.false)
+    gives (delta-inside seen c.top-long.ensures c.if-long-gt33.false c.top.ensures c.if-value-gt4294967296.false)

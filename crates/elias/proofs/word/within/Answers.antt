@@ -2,8 +2,8 @@
 use borrow.Author.Tests.{le-leb, lt-leb}
 use Rattle.elias.proofs.word.within.Goals as goal
 
-pub returns-then-v-most : goal.returns-then-v-most
-returns-then-v-most c = rw (le-leb c.args.v c.args.most c.if-v-most.true)
+pub returns-then-value-most : goal.returns-then-value-most
+returns-then-value-most c = rw (le-leb c.args.value c.args.most c.if-value-most.true)
 
 pub returns : goal.returns
-returns c = rw (lt-leb c.args.v c.args.most c.if-v-most.false)
+returns c = rw (lt-leb c.args.value c.args.most c.if-value-most.false)
