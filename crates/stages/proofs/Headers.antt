@@ -6,15 +6,16 @@ use native.Mathlib.Omega.{arith}
 use lib.Dec.{leb}
 use lib.ListN.{length}
 use borrow.Author.Tests.{le-leb, lt-leb, leb-true}
+use Rattle.std.specs.Prelude.{Result, Ok, Err}
 use Rattle.meaning.specs.Answer.{Answer, given, refused, bind}
 use Rattle.meaning.specs.Bytes.{word_at}
 use Rattle.meaning.specs.Limits.{cut_short, broken}
+use Rattle.meaning.specs.Says.{refusal_number, says_by}
 use Rattle.meaning.specs.Stages.{run_header}
-use Rattle.meaning.specs.declared.Offset.{Offset}
+use Rattle.meaning.specs.declared.Refusal.{Refusal}
 use Rattle.meaning.proofs.Answers.{not-given, bind-given, need-given}
-use Rattle.stages.specs.Header.{header_in, header_says}
+use Rattle.stages.specs.Header.{header_in, header_told}
 use Rattle.stages.specs.declared.header.Header.{Header}
-use Rattle.stages.specs.declared.header.Header.TheVariants.{Runs, Refused}
 
 -- ---- as it is read
 module _ (n : ℕ) (body : List ℕ) where
@@ -83,9 +84,9 @@ unheaded n body z e = record { none = go (run_header n body) e }
     go (refused r) q = let is : r ≡ z = cc in ap (λ (k : ℕ). refused k) is
 
 -- ---- as it is told
-module _ {n : ℕ} {body : List ℕ} {r : Header} (told : header_says r ≡ header_in n body) where
-  pub headed : {k : ℕ} {e : Offset} → r ≡ Runs k e → Headed n body k e.byte
-  headed {k} {e} q = header-given n body k e.byte (sym told ∙ ap header_says q)
+module _ {n : ℕ} {body : List ℕ} {r : Result Header Refusal} (told : says_by header_told r ≡ header_in n body) where
+  pub headed : {h : Header} → r ≡ Ok h → Headed n body h.runs h.end.byte
+  headed {h} q = header-given n body h.runs h.end.byte (sym told ∙ ap (says_by header_told) q)
 
-  pub headless : {z : ℕ} → r ≡ Refused z → Headless n body z
-  headless {z} q = unheaded n body z (sym told ∙ ap header_says q)
+  pub headless : {e : Refusal} → r ≡ Err e → Headless n body (refusal_number e)
+  headless {e} q = unheaded n body (refusal_number e) (sym told ∙ ap (says_by header_told) q)

@@ -27,6 +27,10 @@ module _ (w : List ℕ) (from n : ℕ) where
   pub part-get : (i : ℕ) → i < n → get_or (part w from n) i 0 ≡ get_or w (from + i) 0
   part-get i h = get_or-take n (drop from w) i 0 h ∙ get_or-drop from w i 0
 
+-- a part as a slice of the code lends it
+pub part-lent : (w : List ℕ) (from k : ℕ) → part w from (from + k - from) ≡ part w from k
+part-lent w from k = let e : from + k - from ≡ k = omega arith in rw e
+
 -- one number more of a list is stored
 pub stored_next : (xs w : List ℕ) (from i : ℕ) → i < length xs → set (sets w from (take i xs)) (from + i) (get_or xs i 0) ≡ sets w from (take (i + 1) xs)
 stored_next xs w from i h =

@@ -7,10 +7,10 @@ use native.Mathlib.Omega.{arith}
 use lib.ListN.{length, get_or, take}
 use lib.Seq.{sets, take_all, length-take-le, get_or-take}
 use borrow.Author.Tests.{eq-eqb, ne_eqb}
-use Rattle.meaning.specs.Limits.{broken}
+use Rattle.std.specs.Prelude.{Ok, Err}
 use Rattle.meaning.specs.Places.{part, Got}
 use Rattle.meaning.specs.Stages.{least, sums_from, small, raised, summed}
-use Rattle.meaning.specs.declared.Reading.TheVariants.{Whole, Refused}
+use Rattle.meaning.specs.declared.Refusal.TheVariants as refusal
 use Rattle.meaning.proofs.Stores.{part-sets, take-sets}
 use Rattle.leaves.proofs.Parts.{part_length}
 use Rattle.stages.specs.Firsts.{Stored}
@@ -38,13 +38,13 @@ module _ {from n : ℕ} {w w₁ : List ℕ} {r : ℕ} (room : from + n ≤ lengt
     sums-long : length (sums_from 0 (part w from n)) ≡ n
     sums-long = scan-length sums_from _ _ sums-scan 0 (part w from n) ∙ part_length w from n room
 
-    pub sum_over : r < n → Got (summed (part w from n)) from w w₁ (Refused broken)
+    pub sum_over : r < n → Got (summed (part w from n)) from w w₁ (Err refusal.Broken)
     unfolding summed
     sum_over h =
         let large = one-large (sums_from 0 (part w from n)) (omega (arith, so.many, sums-long)) in
-        got-refused _ from w w₁ broken (rw large) (stored-kept so)
+        got-refused _ from w w₁ refusal.Broken (rw large) (stored-kept so)
 
-    pub sum-whole : n ≤ r → Got (summed (part w from n)) from w w₁ (Whole n)
+    pub sum-whole : n ≤ r → Got (summed (part w from n)) from w w₁ (Ok n)
     unfolding summed
     sum-whole h =
         let (e, stored) = stored-all so (omega (arith, sums-long)) in
@@ -54,11 +54,11 @@ module _ {from n : ℕ} {w w₁ : List ℕ} {r : ℕ} (room : from + n ≤ lengt
     raised_long : length (raised_by m (part w from n)) ≡ n
     raised_long = scan-length raised_by _ _ raise-scan m (part w from n) ∙ part_length w from n room
 
-    pub raise-over : r < n → Got (raised m (part w from n)) from w w₁ (Refused broken)
+    pub raise-over : r < n → Got (raised m (part w from n)) from w w₁ (Err refusal.Broken)
     unfolding raised
     raise-over h =
         let large = one-large (raised_by m (part w from n)) (omega (arith, so.many, raised_long)) in
-        got-refused _ from w w₁ broken (rw large) (stored-kept so)
+        got-refused _ from w w₁ refusal.Broken (rw large) (stored-kept so)
 
     -- every sum is in work, and l is the least of them
     module _ (h : n ≤ r) {l : ℕ} (is : l ≡ least (part w₁ from n)) where
@@ -72,14 +72,14 @@ module _ {from n : ℕ} {w w₁ : List ℕ} {r : ℕ} (room : from + n ≤ lengt
           ∙ ap (λ (k : ℕ). least (part (sets w from (raised_by m (part w from n))) from k)) (sym raised_long)
           ∙ ap least (part-sets (raised_by m (part w from n)) w from (omega (arith, raised_long)))
 
-      pub raise-whole : l ≡ m → Got (raised m (part w from n)) from w w₁ (Whole n)
+      pub raise-whole : l ≡ m → Got (raised m (part w from n)) from w w₁ (Ok n)
       unfolding raised
       raise-whole q =
           got-stored _ from n w w₁ (raised_by m (part w from n)) (rw (all-stored.0, eq-eqb (least (raised_by m (part w from n))) m (sym lowest ∙ q)))
           raised_long room
           all-stored.1
 
-      pub raise-low : (l ≡ m → ⊥) → Got (raised m (part w from n)) from w w₁ (Refused broken)
+      pub raise-low : (l ≡ m → ⊥) → Got (raised m (part w from n)) from w w₁ (Err refusal.Broken)
       unfolding raised
       raise-low q =
-          got-refused _ from w w₁ broken (rw (all-stored.0, ne_eqb (least (raised_by m (part w from n))) m (λ z. q (lowest ∙ z)))) (stored-kept so)
+          got-refused _ from w w₁ refusal.Broken (rw (all-stored.0, ne_eqb (least (raised_by m (part w from n))) m (λ z. q (lowest ∙ z)))) (stored-kept so)

@@ -5,42 +5,43 @@ use mathlib.Core.Bool.{true, false}
 use mathlib.Core.List.{List}
 use native.Mathlib.Nat.{add-zero, sub-zero}
 use native.Mathlib.Omega.{arith}
-use lib.ListN.{get_or}
+use lib.ListN.{length, get_or}
+use Rattle.std.specs.Prelude.{Ok, Err}
 use Rattle.meaning.specs.Answer.{Answer, given}
-use Rattle.meaning.specs.Limits.{broken}
 use Rattle.meaning.specs.Stages.{seek}
 use Rattle.stages.specs.Runs.{run_fits}
 use Rattle.stages.specs.Seeks.{Seeks}
+use Rattle.meaning.specs.declared.Refusal.TheVariants as refusal
 use Rattle.stages.specs.declared.Sought.TheVariants as sought
 use Rattle.stages.proofs.Seeks.{seek-breaks, seek-here, seek-later}
 use Rattle.stages.proofs.Unrolls.{fits-so}
 
 -- ---- in the lengths of a list: the first j of them have been passed, which end after `end` numbers of n
-pub record Seeking (lengths : List ℕ) (count n place done end j : ℕ) : Type 0 where
-  pub few : j ≤ count
+pub record Seeking (lengths : List ℕ) (n place done end j : ℕ) : Type 0 where
+  pub few : j ≤ length lengths
   pub within : end ≤ n
   pub passed : done + j ≤ end
   pub before : done ≤ place → end ≤ place
-  pub so : (length_at : ℕ → Answer ℕ) (k m : ℕ) → ((i : ℕ) → i < count → length_at (m + i) ≡ given (get_or lengths i 0)) → count ≤ k
+  pub so : (length_at : ℕ → Answer ℕ) (k m : ℕ) → ((i : ℕ) → i < length lengths → length_at (m + i) ≡ given (get_or lengths i 0)) → length lengths ≤ k
       → seek length_at n place k m done ≡ seek length_at n place (k - j) (m + j) end
 
-pub seeking-start : {lengths : List ℕ} {count n place done : ℕ} → done ≤ n → Seeking lengths count n place done done 0
+pub seeking-start : {lengths : List ℕ} {n place done : ℕ} → done ≤ n → Seeking lengths n place done done 0
 seeking-start {place = place} {done = done} h =
     record { few = omega arith; within = h; passed = omega arith; before = λ b. b; so = λ length_at k m f b. rw (add-zero m, sub-zero k) }
 
-module _ {lengths : List ℕ} {count n place done end j : ℕ} (s : Seeking lengths count n place done end j) where
+module _ {lengths : List ℕ} {n place done end j : ℕ} (s : Seeking lengths n place done end j) where
   -- all have been passed
-  pub seeking-end : count ≤ j → Seeks lengths count n place done (sought.After (record { number = end }))
+  pub seeking-end : length lengths ≤ j → Seeks lengths n place done (Ok (sought.After (record { number = end })))
   seeking-end h =
-      let e : j ≡ count = omega (arith, s.few) in
+      let e : j ≡ length lengths = omega (arith, s.few) in
       record {
         told = λ length_at k m f b. s.so length_at k m f b ∙ ap (λ (i : ℕ). seek length_at n place (k - i) (m + i) end) e;
         within =
             (s.within, omega (arith, s.passed), s.before);
       }
 
-  module _ (h : j < count) where
-    pub seeking-breaks : run_fits n end (get_or lengths j 0) ≡ false → Seeks lengths count n place done (sought.Refused broken)
+  module _ (h : j < length lengths) where
+    pub seeking-breaks : run_fits n end (get_or lengths j 0) ≡ false → Seeks lengths n place done (Err refusal.Broken)
     seeking-breaks f =
         record {
           told = λ length_at k m g b. s.so length_at k m g b ∙ seek-breaks length_at n place (k - j) (m + j) end (omega arith) (get_or lengths j 0) (g j h) f;
@@ -48,7 +49,7 @@ module _ {lengths : List ℕ} {count n place done end j : ℕ} (s : Seeking leng
         }
 
     module _ (fit : run_fits n end (get_or lengths j 0) ≡ true) where
-      pub seeking-here : place < end + get_or lengths j 0 → Seeks lengths count n place done (sought.At (record { number = j }))
+      pub seeking-here : place < end + get_or lengths j 0 → Seeks lengths n place done (Ok (sought.At (record { number = j })))
       seeking-here c =
           record {
             told = λ length_at k m g b. s.so length_at k m g b
@@ -56,7 +57,7 @@ module _ {lengths : List ℕ} {count n place done end j : ℕ} (s : Seeking leng
             within = h;
           }
 
-      pub seeking-past : end + get_or lengths j 0 ≤ place → Seeking lengths count n place done (end + get_or lengths j 0) (j + 1)
+      pub seeking-past : end + get_or lengths j 0 ≤ place → Seeking lengths n place done (end + get_or lengths j 0) (j + 1)
       seeking-past c =
           let (some, fits) = fits-so n end (get_or lengths j 0) fit in
           record {

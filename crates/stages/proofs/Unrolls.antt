@@ -6,15 +6,15 @@ use mathlib.Core.List.{List, [], ◌∷◌, ◌++◌, append_assoc, append-nil}
 use native.Mathlib.Numerals.{add-one}
 use native.Mathlib.Omega.{arith}
 use lib.Dec.{leb, eqb}
-use lib.ListN.{length, get_or, take, drop, set, replicate, length-set, length-take, length-replicate, replicate-append-replicate, take-append-drop}
+use lib.ListN.{length, get_or, take, drop, replicate, length-take, length-replicate, replicate-append-replicate, take-append-drop}
 use lib.Seq.{sets, length-sets, length-take-le, take_all, take_at, take-suc, take-nil, take-append-add, drop-cons, get_or-take}
 use borrow.Author.Tests.{eq-eqb, ne_eqb, le-leb, lt-leb, leb-true, leb-false}
-use Rattle.meaning.specs.Limits.{broken}
+use Rattle.std.specs.Prelude.{Ok, Err}
 use Rattle.meaning.specs.Lists.{all, sum, differ}
 use Rattle.meaning.specs.Places.{part, Got}
 use Rattle.meaning.specs.Stages.{unroll, unrolled}
-use Rattle.meaning.specs.declared.Reading.TheVariants.{Whole, Refused}
-use Rattle.meaning.proofs.Stores.{sets-snoc, sets-append, take-sets, get_d_past}
+use Rattle.meaning.specs.declared.Refusal.TheVariants as refusal
+use Rattle.meaning.proofs.Stores.{sets-append, take-sets, get_d_past}
 use Rattle.meaning.proofs.Tests.{by_order, by-test, both_true}
 use Rattle.leaves.proofs.Joined.{sum-append}
 use Rattle.leaves.proofs.Parts.{part_length}
@@ -23,29 +23,6 @@ use Rattle.stages.specs.declared.Laid.{Laid}
 use Rattle.stages.proofs.Gots.{got-refused, got-stored, need-broken}
 use Rattle.stages.proofs.Parts.{part-get, stored-get}
 use Rattle.stages.proofs.RunsBack.{unroll-length}
-
--- ---- one value over and over
-pub record Filling (w₀ : List ℕ) (from n v : ℕ) (w : List ℕ) (i : ℕ) : Type 0 where
-  pub most : i ≤ n
-  pub long : length w ≡ length w₀
-  pub here : w ≡ sets w₀ from (replicate i v)
-
-pub filling-start : {w : List ℕ} {from n v : ℕ} → Filling w from n v w 0
-filling-start = record { most = omega arith; long = refl; here = refl }
-
-module _ {w₀ : List ℕ} {from n v : ℕ} {w : List ℕ} {i : ℕ} (so : Filling w₀ from n v w i) where
-  pub filling-turn : i < n → Filling w₀ from n v (set w (from + i) v) (i + 1)
-  filling-turn h =
-      record {
-        most = omega arith;
-        long = length-set w (from + i) v ∙ so.long;
-        here = ap₂ (λ (l : List ℕ) (k : ℕ). set l (from + k) v) so.here (sym (length-replicate i v))
-            ∙ sets-snoc (replicate i v) v w₀ from
-            ∙ ap (sets w₀ from) (replicate-append-replicate i 1 v);
-      }
-
-  pub filling-end : n ≤ i → w ≡ sets w₀ from (replicate n v)
-  filling-end h = let e : i ≡ n = omega (arith, so.most) in so.here ∙ ap (λ (k : ℕ). sets w₀ from (replicate k v)) e
 
 -- ---- whether a run fits
 pub fits-so : (n s l : ℕ) → run_fits n s l ≡ true → (1 ≤ l) × (s + l ≤ n)
@@ -60,12 +37,12 @@ pub fits-empty : (n s l : ℕ) → l ≡ 0 → false ≡ run_fits n s l
 unfolding run_fits
 fits-empty n s l e = rw e
 
-pub fits-some : (n s l m : ℕ) → s ≤ n → (l ≡ 0 → ⊥) → m ≡ l → leb m (n - s) ≡ run_fits n s l
+pub fits-some : (n s l : ℕ) → s ≤ n → (l ≡ 0 → ⊥) → leb l (n - s) ≡ run_fits n s l
 unfolding run_fits
-fits-some n s l m w e is =
+fits-some n s l w e =
     by_order n (s + l)
-    (λ h. lt-leb m (n - s) (omega arith) ∙ sym (rw (le-leb 1 l (omega arith), lt-leb (s + l) n h)))
-    (λ h. le-leb m (n - s) (omega arith) ∙ sym (so-fits n s l (omega arith) h))
+    (λ h. lt-leb l (n - s) (omega arith) ∙ sym (rw (le-leb 1 l (omega arith), lt-leb (s + l) n h)))
+    (λ h. le-leb l (n - s) (omega arith) ∙ sym (so-fits n s l (omega arith) h))
 
 -- a run that does not fit is empty, or passes n
 not-fits : (n s l : ℕ) → run_fits n s l ≡ false → 1 ≤ l → n < s + l
@@ -257,10 +234,10 @@ module _ (k : ℕ) {n from : ℕ} {w w₁ : List ℕ} {r : Laid} (room : from + 
       let over : n < r.numbers + l = by_order r.numbers n (λ k. not-fits n r.numbers l (so.stops k h) one) (λ k. omega arith) in
       omega (arith, sum-part lengths r.runs h, so.laid.total)
 
-  pub unrolled-left : r.runs < k → Got (unrolled n values lengths) from w w₁ (Refused broken)
+  pub unrolled-left : r.runs < k → Got (unrolled n values lengths) from w w₁ (Err refusal.Broken)
   unfolding unrolled
   unrolled-left h =
-      got-refused _ from w w₁ broken
+      got-refused _ from w w₁ refusal.Broken
       (by-test (all (leb 1) lengths) (λ t. rw (t, ne_eqb (sum lengths) n (λ q. omega (arith, left_over (omega (arith, many-lengths)) t)))) (λ t. rw t))
       (laid_kept so.laid)
 
@@ -268,14 +245,14 @@ module _ (k : ℕ) {n from : ℕ} {w w₁ : List ℕ} {r : Laid} (room : from + 
     all-lengths : take r.runs lengths ≡ lengths
     all-lengths = take_all r.runs lengths (omega (arith, many-lengths))
 
-    pub unrolled-short : r.numbers < n → Got (unrolled n values lengths) from w w₁ (Refused broken)
+    pub unrolled-short : r.numbers < n → Got (unrolled n values lengths) from w w₁ (Err refusal.Broken)
     unfolding unrolled
     unrolled-short l =
-        got-refused _ from w w₁ broken
+        got-refused _ from w w₁ refusal.Broken
         (need-broken (all (leb 1) lengths) _ (rw (ne_eqb (sum lengths) n (λ q. omega (arith, so.laid.total, ap sum all-lengths)))))
         (laid_kept so.laid)
 
-    pub unrolled-whole : n ≤ r.numbers → differ values ≡ true → Got (unrolled n values lengths) from w w₁ (Whole n)
+    pub unrolled-whole : n ≤ r.numbers → differ values ≡ true → Got (unrolled n values lengths) from w w₁ (Ok n)
     unfolding unrolled
     unrolled-whole l d =
         let total : sum lengths ≡ n = omega (arith, so.laid.total, so.laid.within, ap sum all-lengths) in
@@ -290,7 +267,7 @@ module _ (k : ℕ) {n from : ℕ} {w w₁ : List ℕ} {r : Laid} (room : from + 
         (so.laid.here ∙ ap (sets w from) whole)
 
 -- the values' neighbours are not all apart
-pub unrolled-same : (vs ls : List ℕ) (n from : ℕ) (w : List ℕ) → differ vs ≡ false → Got (unrolled n vs ls) from w w (Refused broken)
+pub unrolled-same : (vs ls : List ℕ) (n from : ℕ) (w : List ℕ) → differ vs ≡ false → Got (unrolled n vs ls) from w w (Err refusal.Broken)
 unfolding unrolled
 unrolled-same vs ls n from w e =
-    got-refused _ from w w broken (need-broken (all (leb 1) ls) _ (need-broken (eqb (sum ls) n) _ (rw e))) refl
+    got-refused _ from w w refusal.Broken (need-broken (all (leb 1) ls) _ (need-broken (eqb (sum ls) n) _ (rw e))) refl

@@ -1,86 +1,86 @@
--- Loops that walk a list: what is still to be asked, asked from here, is the whole. Assumes nothing.
-use Prim.Native.Nat.{ℕ, ◌+◌, ◌*◌, ◌≤◌, ◌<◌, min}
-use mathlib.Core.Path.{◌≡◌, sym, ap, ◌∙◌}
+-- What a walk over a whole list answers, in the meaning's words. Assumes nothing.
+use Prim.Native.Nat.{ℕ, zero, suc, ◌+◌, ◌*◌, ◌≤◌, ◌<◌, min}
+use mathlib.Core.Path.{◌≡◌, refl, sym, ap, ◌∙◌}
 use mathlib.Core.Bool.{Bool, true, false, ◌&&◌}
-use mathlib.Core.List.{List, ◌∷◌}
+use mathlib.Core.List.{List, [], ◌∷◌}
+use native.Mathlib.Nat.{suc-add}
 use native.Mathlib.Omega.{arith}
-use lib.ListN.{length, get_or, drop}
+use lib.ListN.{length, get_or}
+use Rattle.std.specs.List.{IsAllAdjacentAnswer}
+use Rattle.std.specs.Option.{MatchOption, unwrap_or}
+use Rattle.std.specs.Prelude.{Option, None, Some, sum as summed}
+use Rattle.std.proofs.lemmas.List.Sums.{sum_by-cons}
 use Rattle.meaning.specs.Limits.{number_limit}
 use Rattle.meaning.specs.Lists.{neighbours, sum}
-use Rattle.meaning.specs.Places.{part}
+use Rattle.meaning.specs.Places.{Below}
 use Rattle.meaning.specs.Stages.{least_of, least}
-use Rattle.stages.proofs.Parts.{part_at, part-first, part_end}
 
--- ---- neighbours: v is the number before place i
-pub record Comparing (test : ℕ → ℕ → Bool) (w : List ℕ) (from n v i : ℕ) : Type 0 where
-  pub room : from + n ≤ length w
-  pub rest : neighbours test (part w from n) ≡ neighbours test (v ∷ drop i (part w from n))
-
-pub comparing-none : (test : ℕ → ℕ → Bool) (w : List ℕ) (from n : ℕ) → n ≡ 0 → true ≡ neighbours test (part w from n)
-unfolding neighbours
-comparing-none test w from n e = rw e
-
-pub comparing-start : {test : ℕ → ℕ → Bool} {w : List ℕ} {from n : ℕ} → from + n ≤ length w → (n ≡ 0 → ⊥) → Comparing test w from n (get_or w from 0) 1
-comparing-start {test} {w} {from} {n} room h = record { room = room; rest = ap (neighbours test) (part-first w from n room h) }
-
-module _ {test : ℕ → ℕ → Bool} {w : List ℕ} {from n v i : ℕ} (so : Comparing test w from n v i) where
-  next-compared : i < n
-      → neighbours test (part w from n) ≡ test v (get_or w (from + i) 0) && neighbours test (get_or w (from + i) 0 ∷ drop (i + 1) (part w from n))
+-- ---- neighbours: whether a test holds of each number and the one before it
+module _ (test : ℕ → ℕ → Bool) where
+  all-pass : (xs : List ℕ) → ((k d : ℕ) → k + 1 < length xs → true ≡ test (get_or xs k d) (get_or xs (k + 1) d)) → true ≡ neighbours test xs
   unfolding neighbours
-  next-compared h = so.rest ∙ ap (λ (l : List ℕ). neighbours test (v ∷ l)) (part_at w from n so.room i h)
+  all-pass [] h = refl
+  all-pass (x ∷ []) h = refl
+  all-pass (x ∷ y ∷ xs) h =
+      rw (sym (h 0 0 (omega arith)))
+      (all-pass (y ∷ xs) (λ k d l. h (suc k) d (omega arith) ∙ ap (λ i. test (get_or (y ∷ xs) k d) (get_or (x ∷ y ∷ xs) i d)) (suc-add k 1)))
 
-  pub comparing-turn : i < n → test v (get_or w (from + i) 0) ≡ true → Comparing test w from n (get_or w (from + i) 0) (i + 1)
-  comparing-turn h e = record { room = so.room; rest = next-compared h ∙ rw e }
-
-  pub comparing-fail : i < n → test v (get_or w (from + i) 0) ≡ false → false ≡ neighbours test (part w from n)
-  comparing-fail h e = sym (next-compared h ∙ rw e)
-
-  pub comparing-end : n ≤ i → true ≡ neighbours test (part w from n)
+  one-fails : (xs : List ℕ) (k : ℕ) → k + 1 < length xs → false ≡ test (get_or xs k 0) (get_or xs (k + 1) 0) → false ≡ neighbours test xs
   unfolding neighbours
-  comparing-end h = sym (so.rest ∙ ap (λ (l : List ℕ). neighbours test (v ∷ l)) (part_end w from n i h))
+  one-fails [] k l e = absurd (omega arith)
+  one-fails (x ∷ []) k l e = absurd (omega arith)
+  one-fails (x ∷ y ∷ xs) zero l e = rw (← e)
+  one-fails (x ∷ y ∷ xs) (suc k) l e = go (test x y) (one-fails (y ∷ xs) k (omega arith) (e ∙ ap (λ i. test (get_or (y ∷ xs) k 0) (get_or (x ∷ y ∷ xs) i 0)) (suc-add k 1)))
+    where
+      go : (b : Bool) → false ≡ neighbours test (y ∷ xs) → false ≡ b && neighbours test (y ∷ xs)
+      go true q = q
+      go false q = refl
 
--- ---- the least number: m is the least so far
-pub record Lowering (w : List ℕ) (from n m i : ℕ) : Type 0 where
-  pub room : from + n ≤ length w
-  pub rest : least_of m (drop i (part w from n)) ≡ least (part w from n)
+  pub adjacent-is : (xs : List ℕ) (r : Bool) → IsAllAdjacentAnswer (λ x y b. b ≡ test x y) xs r → r ≡ neighbours test xs
+  adjacent-is xs true h = all-pass xs h
+  adjacent-is xs false h = one-fails xs h.0 h.1 (h.2 0)
 
-pub lowering-none : (w : List ℕ) (from n : ℕ) → n ≡ 0 → 0 ≡ least (part w from n)
+-- ---- the least number: one of them, and none is below it
+least-below : (m n : ℕ) (xs : List ℕ) → m ≤ n → ((k : ℕ) → k < length xs → m ≤ get_or xs k 0) → m ≤ least_of n xs
+unfolding least_of
+least-below m n [] b h = b
+least-below m n (x ∷ xs) b h = least-below m (min n x) xs (omega (arith, h 0)) (λ k l. h (suc k) (omega arith))
+
+least-first : (n : ℕ) (xs : List ℕ) → least_of n xs ≤ n
+unfolding least_of
+least-first n [] = omega arith
+least-first n (x ∷ xs) = omega (arith, least-first (min n x) xs)
+
+least-above : (n : ℕ) (xs : List ℕ) (k : ℕ) → k < length xs → least_of n xs ≤ get_or xs k 0
+unfolding least_of
+least-above n [] k h = absurd (omega arith)
+least-above n (x ∷ xs) zero h = omega (arith, least-first (min n x) xs)
+least-above n (x ∷ xs) (suc k) h = least-above (min n x) xs k (omega arith)
+
+abbrev pub Lowest : List ℕ → ℕ → Type 0
+Lowest xs m = ((k : ℕ) → k < length xs → m ≤ get_or xs k 0) × ((k : ℕ) × (k < length xs) × (get_or xs k 0 ≡ m))
+
+lowest-is : (xs : List ℕ) (m : ℕ) → Lowest xs m → m ≡ least xs
 unfolding least
-lowering-none w from n e = rw e
+lowest-is [] m (h, (k, l, e)) = absurd (omega arith)
+lowest-is (x ∷ xs) m (h, (zero, l, e)) =
+    omega (arith, least-below m x xs (omega arith) (λ k l. h (suc k) (omega arith)), least-first x xs)
+lowest-is (x ∷ xs) m (h, (suc k, l, e)) =
+    omega (arith, h 0, least-below m x xs (h 0 (omega arith)) (λ k l. h (suc k) (omega arith)), least-above x xs k (omega arith), e)
 
-pub lowering-start : {w : List ℕ} {from n : ℕ} → from + n ≤ length w → (n ≡ 0 → ⊥) → Lowering w from n (get_or w from 0) 1
+pub least-is : (xs : List ℕ) (o : Option ℕ) → MatchOption o (length xs ≡ 0) (Lowest xs) → unwrap_or o 0 ≡ least xs
 unfolding least
-lowering-start {w} {from} {n} room h = record { room = room; rest = sym (ap least (part-first w from n room h)) }
+least-is [] None h = refl
+least-is (x ∷ xs) None h = absurd (omega arith)
+least-is xs (Some m) h = lowest-is xs m h
 
-module _ {w : List ℕ} {from n m i : ℕ} (so : Lowering w from n m i) where
-  pub lowering-turn : i < n → {m' : ℕ} → m' ≡ min m (get_or w (from + i) 0) → Lowering w from n m' (i + 1)
-  unfolding least_of
-  lowering-turn h e =
-      record {
-        room = so.room;
-        rest = ap (λ (k : ℕ). least_of k (drop (i + 1) (part w from n))) e ∙ sym (ap (least_of m) (part_at w from n so.room i h)) ∙ so.rest;
-      }
+-- ---- the sum
+pub sum-is : (xs : List ℕ) → summed xs ≡ sum xs
+unfolding sum
+sum-is [] = refl
+sum-is (x ∷ xs) = sum_by-cons (λ y. y) x xs ∙ ap (λ s. x + s) (sum-is xs)
 
-  pub lowering-end : n ≤ i → m ≡ least (part w from n)
-  unfolding least_of
-  lowering-end h = sym (ap (least_of m) (part_end w from n i h)) ∙ so.rest
-
--- ---- the sum: s is that of the first i numbers
-pub record Adding (w : List ℕ) (from n s i : ℕ) : Type 0 where
-  pub room : from + n ≤ length w
-  pub most : i ≤ n
-  pub small : s ≤ i * number_limit
-  pub rest : s + sum (drop i (part w from n)) ≡ sum (part w from n)
-
-pub adding-start : {w : List ℕ} {from n : ℕ} → from + n ≤ length w → Adding w from n 0 0
-adding-start room = record { room = room; most = omega arith; small = omega arith; rest = omega arith }
-
-module _ {w : List ℕ} {from n s i : ℕ} (so : Adding w from n s i) where
-  pub adding-turn : i < n → {x : ℕ} → x ≡ get_or w (from + i) 0 → x < number_limit → Adding w from n (s + x) (i + 1)
-  unfolding sum
-  adding-turn h e l =
-      record { room = so.room; most = omega arith; small = omega (arith, so.small); rest = omega (arith, so.rest, ap sum (part_at w from n so.room i h)) }
-
-  pub adding-end : n ≤ i → s ≡ sum (part w from n)
-  unfolding sum
-  adding-end h = omega (arith, so.rest, ap sum (part_end w from n i h))
+pub sum-most : (xs : List ℕ) → Below number_limit xs → sum xs ≤ length xs * number_limit
+unfolding sum
+sum-most [] h = omega arith
+sum-most (x ∷ xs) h = omega (arith, h 0, sum-most xs (λ k. h (suc k)))

@@ -1,33 +1,36 @@
 // A run stage's header.
 ghost use Rattle.std.specs.Prelude.{◌≡◌};
-ghost use Rattle.stages.specs.Header.{header_in, header_says};
+ghost use Rattle.meaning.specs.Says.{says_by};
+ghost use Rattle.stages.specs.Header.{header_in, header_told};
 
-use leaves::whole;
-use meaning::{BROKEN, CUT_SHORT, Offset};
+use meaning::{Offset, Refusal};
 use words::word_at;
 
-// How many runs there are and where the values body ends, or the refusal.
+// How many runs there are, and where the values body ends.
 #[derive(Clone, Copy)]
-pub enum Header {
-    Runs(usize, Offset),
-    Refused(u8),
+pub struct Header {
+    pub runs: usize,
+    pub end: Offset,
 }
 
 // A run stage's header: it fits, then its count is at most n, then the values body fits.
-pub fn header_of(body: &[u8], n: usize) -> Header
-    ensures { header_says result ≡ header_in n body.now }
+pub fn header_of(body: &[u8], n: usize) -> Result<Header, Refusal>
+    ensures { says_by header_told result ≡ header_in n body.now }
 {
     if body.len() < 8 {
-        return Header::Refused(CUT_SHORT);
+        return Err(Refusal::CutShort);
     }
-    let runs = whole(word_at(body, Offset { byte: 0 }));
+    let runs = word_at(body, Offset { byte: 0 }) as usize;
     if n < runs {
-        return Header::Refused(BROKEN);
+        return Err(Refusal::Broken);
     }
-    let size = whole(word_at(body, Offset { byte: 4 }));
+    let size = word_at(body, Offset { byte: 4 }) as usize;
     if body.len() - 8 < size {
-        return Header::Refused(CUT_SHORT);
+        return Err(Refusal::CutShort);
     }
     let end = 8 + size;
-    Header::Runs(runs, Offset { byte: end })
+    Ok(Header {
+        runs,
+        end: Offset { byte: end },
+    })
 }

@@ -15,8 +15,7 @@ ghost use Rattle.stages.specs.Runs.{RunsMade, run_fits, Spread};
 ghost use Rattle.stages.specs.Seeks.{Seeks};
 
 pub use header::{Header, header_of};
-use leaves::{lesser, long, whole};
-use meaning::{BROKEN, FIRST_EDITION, Place, RISING, Reading};
+use meaning::{FIRST_EDITION, Place, RISING, Refusal};
 
 // The largest number.
 const MOST: u32 = 4294967295;
@@ -35,102 +34,45 @@ fn less(a: u32, b: u32) -> u32
 }
 
 // Whether no number of a list is below the one before.
-fn rises_in(work: &[u32], from: Place, n: usize) -> bool
-    requires { from.number + n ≤ length work.now }
-    ensures { result ≡ rises (part work.now from.number n) }
+fn rises_in(list: &[u32]) -> bool
+    ensures { result ≡ rises list.now }
 {
-    if n == 0 {
-        return true;
-    }
-    let first = from.number;
-    let mut v = work[first];
-    let mut i = 1;
-    while i < n {
-        let x = work[first + i];
-        if x < v {
-            return false;
-        }
-        v = x;
-        i += 1;
-    }
-    true
+    list.is_sorted_by(|a, b| a <= b)
 }
 
 // Whether each number of a list is above the one before.
-fn strict_in(work: &[u32], from: Place, n: usize) -> bool
-    requires { from.number + n ≤ length work.now }
-    ensures { result ≡ strict (part work.now from.number n) }
+fn strict_in(list: &[u32]) -> bool
+    ensures { result ≡ strict list.now }
 {
-    if n == 0 {
-        return true;
-    }
-    let first = from.number;
-    let mut v = work[first];
-    let mut i = 1;
-    while i < n {
-        let x = work[first + i];
-        if x <= v {
-            return false;
-        }
-        v = x;
-        i += 1;
-    }
-    true
+    list.is_sorted_by(|a, b| a < b)
 }
 
 // Whether a list is of its kind, by the edition.
-pub fn of_kind(edition: u8, kind: u8, work: &[u32], from: Place, n: usize) -> bool
-    requires { from.number + n ≤ length work.now }
-    ensures { result ≡ of_kind edition kind (part work.now from.number n) }
+pub fn of_kind(edition: u8, kind: u8, list: &[u32]) -> bool
+    ensures { result ≡ of_kind edition kind list.now }
 {
     if kind != RISING {
         return true;
     }
     if edition == FIRST_EDITION {
-        return rises_in(work, from, n);
+        return rises_in(list);
     }
-    strict_in(work, from, n)
+    strict_in(list)
 }
 
 // Whether the neighbours in a list differ.
-pub fn differs_in(work: &[u32], from: Place, n: usize) -> bool
-    requires { from.number + n ≤ length work.now }
-    ensures { result ≡ differ (part work.now from.number n) }
+pub fn differs_in(list: &[u32]) -> bool
+    ensures { result ≡ differ list.now }
 {
-    if n == 0 {
-        return true;
-    }
-    let first = from.number;
-    let mut v = work[first];
-    let mut i = 1;
-    while i < n {
-        let x = work[first + i];
-        if x == v {
-            return false;
-        }
-        v = x;
-        i += 1;
-    }
-    true
+    list.is_sorted_by(|a, b| a != b)
 }
 
 // ---- below writing
 // The least number of a list, 0 where it is empty.
-pub fn least_of(work: &[u32], from: Place, n: usize) -> u32
-    requires { from.number + n ≤ length work.now }
-    ensures { result ≡ least (part work.now from.number n) }
+pub fn least_of(list: &[u32]) -> u32
+    ensures { result ≡ least list.now }
 {
-    if n == 0 {
-        return 0;
-    }
-    let first = from.number;
-    let mut m = work[first];
-    let mut i = 1;
-    while i < n {
-        m = smaller(m, work[first + i]);
-        i += 1;
-    }
-    m
+    list.iter().copied().min().unwrap_or(0)
 }
 
 // The list less m, behind it.
@@ -235,32 +177,20 @@ pub fn sum_firsts(work: &mut [u32], from: Place, n: usize) -> usize
     i
 }
 
-// n numbers of a list, from a place on, are copied to the start of another.
-pub fn copy_list(list: &[u32], from: Place, n: usize, out: &mut [u32])
-    requires { (from.number + n ≤ length list.now) × (n ≤ length out.old) }
-    ensures { out.new ≡ sets out.old 0 (part list.now from.number n) }
+// A list is copied to the start of another.
+pub fn copy_list(list: &[u32], out: &mut [u32])
+    requires { length list.now ≤ length out.old }
+    ensures { out.new ≡ sets out.old 0 list.now }
 {
-    let first = from.number;
-    let mut i: usize = 0;
-    while i < n {
-        out[i] = list[first + i];
-        i += 1;
-    }
+    out[..list.len()].copy_from_slice(list);
 }
 
 // The sum of a list.
-pub fn total_of(work: &[u32], from: Place, n: usize) -> u64
-    requires { (from.number + n ≤ length work.now) × (n ≤ most_numbers) }
-    ensures { (result ≡ sum (part work.now from.number n)) × (result ≤ n * number_limit) }
+pub fn total_of(list: &[u32]) -> u64
+    requires { length list.now ≤ most_numbers }
+    ensures { (result ≡ sum list.now) × (result ≤ length list.now * number_limit) }
 {
-    let first = from.number;
-    let mut s: u64 = 0;
-    let mut i = 0;
-    while i < n {
-        s += long(work[first + i]);
-        i += 1;
-    }
-    s
+    list.iter().map(|&x| u64::from(x)).sum()
 }
 
 // One value, n times over.
@@ -269,11 +199,7 @@ fn fill(work: &mut [u32], from: Place, n: usize, v: u32)
     ensures { work.new ≡ sets work.old from.number (replicate n v) }
 {
     let first = from.number;
-    let mut i = 0;
-    while i < n {
-        work[first + i] = v;
-        i += 1;
-    }
+    work[first..first + n].fill(v);
 }
 
 // How many runs are laid, and how many numbers they hold.
@@ -291,37 +217,33 @@ pub fn run_fits(n: usize, done: usize, length: u32) -> bool
     if length == 0 {
         return false;
     }
-    whole(length) <= n - done
+    length as usize <= n - done
 }
 
-// A run sought in some lengths: which of them it is, or how many numbers stand in their runs if it is none of them, or the refusal.
+// A run sought in some lengths: which of them it is, or how many numbers stand in their runs if it is none of them.
 #[derive(Clone, Copy)]
 pub enum Sought {
     At(Place),
     After(Place),
-    Refused(u8),
 }
 
-// The run that holds a place of n, sought in the first `count` lengths, which begin after `done` numbers.
-pub fn seek_in(lengths: &[u32], count: usize, n: usize, place: Place, done: Place) -> Sought
-    requires { (count ≤ length lengths.now) × (done.number ≤ n) }
-    ensures { Seeks lengths.now count n place.number done.number result }
+// The run that holds a place of n, sought in some lengths, which begin after `done` numbers.
+pub fn seek_in(lengths: &[u32], n: usize, place: Place, done: Place) -> Result<Sought, Refusal>
+    requires { done.number ≤ n }
+    ensures { Seeks lengths.now n place.number done.number result }
 {
     let goal = place.number;
     let mut end = done.number;
-    let mut j: usize = 0;
-    while j < count {
-        let length = lengths[j];
+    for (j, &length) in lengths.iter().enumerate() {
         if !run_fits(n, end, length) {
-            return Sought::Refused(BROKEN);
+            return Err(Refusal::Broken);
         }
-        end += whole(length);
+        end += length as usize;
         if goal < end {
-            return Sought::At(Place { number: j });
+            return Ok(Sought::At(Place { number: j }));
         }
-        j += 1;
     }
-    Sought::After(Place { number: end })
+    Ok(Sought::After(Place { number: end }))
 }
 
 // The first `goal` numbers of n that k runs make, up to the first run that does not fit: the runs' values stand n places after them, their lengths 2n.
@@ -348,9 +270,9 @@ pub fn spread(work: &mut [u32], from: Place, n: usize, goal: usize, k: usize) ->
             };
         }
         let v = work[first + n + j];
-        let next = done + whole(length);
+        let next = done + length as usize;
         let to = first + done;
-        let more = lesser(next, goal) - done;
+        let more = next.min(goal) - done;
         fill(work, Place { number: to }, more, v);
         done = next;
         j += 1;
@@ -363,46 +285,47 @@ pub fn spread(work: &mut [u32], from: Place, n: usize, goal: usize, k: usize) ->
 
 // ---- below reading: all of them
 // Each number of a list becomes its sum with the reference m, which must then be the least.
-pub fn raise(work: &mut [u32], from: Place, n: usize, m: u32) -> Reading
+pub fn raise(work: &mut [u32], from: Place, n: usize, m: u32) -> Result<usize, Refusal>
     requires { from.number + n ≤ length work.old }
     ensures { Got (raised m (part work.old from.number n)) from.number work.old work.new result }
 {
     if raise_firsts(work, from, n, m) < n {
-        return Reading::Refused(BROKEN);
+        return Err(Refusal::Broken);
     }
-    if least_of(work, from, n) == m {
-        return Reading::Whole(n);
+    let first = from.number;
+    if least_of(&work[first..first + n]) == m {
+        return Ok(n);
     }
-    Reading::Refused(BROKEN)
+    Err(Refusal::Broken)
 }
 
 // Each number of a list becomes its sum with all before.
-pub fn sum_up(work: &mut [u32], from: Place, n: usize) -> Reading
+pub fn sum_up(work: &mut [u32], from: Place, n: usize) -> Result<usize, Refusal>
     requires { from.number + n ≤ length work.old }
     ensures { Got (summed (part work.old from.number n)) from.number work.old work.new result }
 {
     if sum_firsts(work, from, n) < n {
-        return Reading::Refused(BROKEN);
+        return Err(Refusal::Broken);
     }
-    Reading::Whole(n)
+    Ok(n)
 }
 
 // k runs become a list of n numbers: their values stand n places after it, their lengths 2n.
-pub fn unroll_into(work: &mut [u32], from: Place, n: usize, k: usize) -> Reading
+pub fn unroll_into(work: &mut [u32], from: Place, n: usize, k: usize) -> Result<usize, Refusal>
     requires { (from.number + 3 * n ≤ length work.old) × (k ≤ n) }
     ensures { Got (unrolled n (part work.old (from.number + n) k) (part work.old (from.number + 2 * n) k))
         from.number work.old work.new result }
 {
     let values = from.number + n;
-    if !differs_in(work, Place { number: values }, k) {
-        return Reading::Refused(BROKEN);
+    if !differs_in(&work[values..values + k]) {
+        return Err(Refusal::Broken);
     }
     let laid = spread(work, from, n, n, k);
     if laid.runs < k {
-        return Reading::Refused(BROKEN);
+        return Err(Refusal::Broken);
     }
     if laid.numbers < n {
-        return Reading::Refused(BROKEN);
+        return Err(Refusal::Broken);
     }
-    Reading::Whole(n)
+    Ok(n)
 }

@@ -1,12 +1,11 @@
--- `fill`: the first of them are stored. Assumes nothing.
-use Rattle.stages.proofs.Unrolls.{filling-start, filling-turn, filling-end}
+-- `fill`: the value stands n times. Assumes nothing.
+use Rattle.std.proofs.Common.{rules, arith, ◌+◌, ◌-◌, replicate, ◌≡◌}
+use Rattle.std.proofs.Math.ListN.{length-replicate}
+use Rattle.meaning.proofs.Stores.{mid-sets}
 use Rattle.stages.proofs.fill.Goals as goal
 
-pub loop-i-init : goal.loop-i-init
-loop-i-init c = filling-start
-
-pub loop-i-preserved : goal.loop-i-preserved
-loop-i-preserved c = filling-turn c.loop-i.invariant c.loop-i-test.true
-
 pub returns : goal.returns
-returns c = filling-end c.loop-i.invariant c.loop-i-test.false
+returns c =
+    let a = c.args in
+    let so : c.fill.new.self ≡ replicate a.n a.v = search rules in
+    rw so (mid-sets a.work.now (replicate a.n a.v) a.from.number (a.from.number + a.n - a.from.number) (simp length-replicate (omega arith)) (omega arith))

@@ -1,15 +1,12 @@
--- `least_of`: the least of the numbers so far and of those still to come is the least of all. Assumes nothing.
-use Rattle.stages.proofs.Walks.{lowering-none, lowering-start, lowering-turn, lowering-end}
+-- `least_of`: one of the numbers, and none is below it. Assumes nothing.
+use mathlib.Core.Path.{◌∙◌}
+use Rattle.std.proofs.Common.{rules, length, ◌≡◌}
+use Rattle.std.specs.Option.{MatchOption}
+use Rattle.stages.proofs.Walks.{Lowest, least-is}
 use Rattle.stages.proofs.least_of.Goals as goal
 
-pub returns-then-n-eq0 : goal.returns-then-n-eq0
-returns-then-n-eq0 c = lowering-none c.args.work.now c.args.from.number c.args.n c.if-n-eq0.true
-
-pub loop-i-init : goal.loop-i-init
-loop-i-init c = lowering-start c.requires c.if-n-eq0.false
-
-pub loop-i-preserved : goal.loop-i-preserved
-loop-i-preserved c = lowering-turn c.loop-i.invariant c.loop-i-test.true c.smaller-m.ensures
-
 pub returns : goal.returns
-returns c = lowering-end c.loop-i.invariant c.loop-i-test.false
+returns c =
+    let list = c.args.list.now in
+    let low : MatchOption c.min.result (length list ≡ 0) (Lowest list) = search rules in
+    c.unwrap_or.ensures ∙ least-is list c.min.result low

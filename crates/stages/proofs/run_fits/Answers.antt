@@ -6,4 +6,4 @@ pub returns-then-length-eq0 : goal.returns-then-length-eq0
 returns-then-length-eq0 c = fits-empty c.args.n c.args.done c.args.length c.if-length-eq0.true
 
 pub returns : goal.returns
-returns c = fits-some c.args.n c.args.done c.args.length c.whole.result c.requires c.if-length-eq0.false c.whole.ensures.0
+returns c = fits-some c.args.n c.args.done c.args.length c.requires c.if-length-eq0.false

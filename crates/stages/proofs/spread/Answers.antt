@@ -17,7 +17,7 @@ pub loop-done-preserved : goal.loop-done-preserved
 loop-done-preserved c =
     let inv = c.loop-done.invariant in
     spreading-turn inv (omega (arith, c.if-j-k.false)) c.loop-done-test.true refl refl (sym c.run_fits.ensures ∙ c.if-not-run_fits.false)
-    c.whole.ensures.0 c.lesser.ensures c.fill.ensures
+    refl c.min.ensures c.fill.ensures
 
 pub returns : goal.returns
 returns c = spreading-stop c.loop-done.invariant (λ a b. absurd (omega (arith, c.loop-done-test.false)))

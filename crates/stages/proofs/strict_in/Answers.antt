@@ -1,24 +1,12 @@
--- `strict_in`: what is still to be asked of a number and those after it is the whole. Assumes nothing.
-use borrow.Author.Tests.{lt-ltb, le-ltb}
+-- `strict_in` asks each number and the one before it. Assumes nothing.
+use Rattle.std.proofs.Common.{rules}
+use Rattle.std.proofs.lemmas.Fn.{always_returns_same}
+use borrow.Author.Tests.{tests}
 use lib.Dec.{ltb}
 use Rattle.meaning.specs.Lists.{strict}
-use Rattle.stages.proofs.Walks.{comparing-none, comparing-start, comparing-turn, comparing-fail, comparing-end}
+use Rattle.stages.proofs.Walks.{adjacent-is}
 use Rattle.stages.proofs.strict_in.Goals as goal
-
-pub returns-then-n-eq0 : goal.returns-then-n-eq0
-unfolding strict
-returns-then-n-eq0 c = comparing-none ltb c.args.work.now c.args.from.number c.args.n c.if-n-eq0.true
-
-pub loop-i-init : goal.loop-i-init
-loop-i-init c = comparing-start c.requires c.if-n-eq0.false
-
-pub returns-then-x-v : goal.returns-then-x-v
-unfolding strict
-returns-then-x-v c = comparing-fail c.loop-i.invariant c.loop-i-test.true (le-ltb _ _ c.if-x-v.true)
-
-pub loop-i-preserved : goal.loop-i-preserved
-loop-i-preserved c = comparing-turn c.loop-i.invariant c.loop-i-test.true (lt-ltb _ _ c.if-x-v.false)
 
 pub returns : goal.returns
 unfolding strict
-returns c = comparing-end c.loop-i.invariant c.loop-i-test.false
+returns c = adjacent-is ltb c.args.list.now c.is_sorted_by.result (c.is_sorted_by.ensures.cases ltb (always_returns_same _ _ _ (λ a r f k. search (rules, tests))))
