@@ -1,5 +1,6 @@
 -- What the source's answers say, in the document's numbers.
 use Rattle.std.specs.Prelude.{ℕ, List, take, Result, Ok, Err}
+use Rattle.std.specs.Borrow.{Bor}
 use Rattle.meaning.specs.Answer.{Answer, given, refused, Verdict, passed, blamed}
 use Rattle.meaning.specs.Limits.{no_sheet, bad_table, bad_plan, unfit_plan, no_column, no_place, no_room, short_work, cut_short, fallen}
 use Rattle.meaning.specs.Limits.{bad_orders, bad_board, broken}
@@ -45,6 +46,10 @@ unit_told u = (u.next, take u.count u.numbers)
 -- rank and select count bits by their index
 abbrev pub bit_told : Bit → ℕ
 bit_told b = b.index
+
+-- a lent part is told by what it holds
+abbrev pub part_told : Bor (List ℕ) → List ℕ
+part_told p = p.now
 
 -- a check passes, or blames a column
 abbrev pub verdict_says : {A : Type 0} → Result A Fault → Verdict

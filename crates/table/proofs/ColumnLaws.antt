@@ -6,6 +6,7 @@ use native.Mathlib.Omega.{arith}
 use lib.Dec.{ltb}
 use lib.ListN.{length, take, drop}
 use borrow.Author.Tests.{lt-ltb, le-ltb, ltb-true}
+use Rattle.std.specs.Prelude.{Result, Ok, Err}
 use Rattle.meaning.specs.Answer.{given, refused, need, Verdict, passed, blamed, after}
 use Rattle.meaning.specs.Limits.{plan_bytes, no_column}
 use Rattle.meaning.specs.Operations.{column, fetch}
@@ -13,9 +14,9 @@ use Rattle.meaning.specs.Sheet.{Column, columns_of, column_at, sound, column_cou
 use Rattle.meaning.proofs.Answers.{need-given, not-given}
 use Rattle.table.specs.Offsets.{plan_offset, body_offset, Within}
 use Rattle.table.specs.Entries.{Here, EntryIs, Opened, ColumnIs}
+use Rattle.meaning.specs.Says.{refusal_number}
+use Rattle.meaning.specs.declared.Refusal.{Refusal}
 use Rattle.table.specs.declared.Entry.{Entry}
-use Rattle.table.specs.declared.Column.{Column as Told}
-use Rattle.table.specs.declared.Column.TheVariants.{At, Refused}
 use Rattle.table.proofs.Columns.{column-count, edition-is, plan-is, size_is, body_is, begins-so}
 use Rattle.table.proofs.Slots.{slot-within}
 use Rattle.table.proofs.Sounds.{sound-table, sound-column}
@@ -67,13 +68,6 @@ module _ (sheet : List ℕ) (k : ℕ) where
           let (t, _) = need-given (ltb k (length (columns_of sheet))) no_column (given (column_at sheet k)) c q in
           record { sounds = s; exists = omega (arith, ltb-true k (length (columns_of sheet)) t, column-count sheet) }
       go (blamed z j) s q = absurd (not-given z c q)
-
-  -- an answer by its case
-  pub opened-by : (r : Told) (e : Entry) → ColumnIs sheet k r → r ≡ At e → Opened sheet k e
-  opened-by r e h q = subst (ColumnIs sheet k) q h
-
-  pub refused-by : (r : Told) (z : ℕ) → ColumnIs sheet k r → r ≡ Refused z → column sheet k ≡ refused z
-  refused-by r z h q = subst (ColumnIs sheet k) q h
 
   -- ---- its body fetched
   pub fetch-refused : (z : ℕ) → column sheet k ≡ refused z → fetch sheet k ≡ refused z

@@ -7,14 +7,14 @@ use native.Mathlib.Omega.{arith}
 use lib.Dec.{leb, eqb}
 use lib.ListN.{length, get_or, take, drop}
 use borrow.Author.Tests.{le-leb, lt-leb, not-true, not-false}
+use Rattle.std.specs.Prelude.{Result, Ok, Err}
 use Rattle.meaning.specs.Answer.{passed, blamed, in_turn}
 use Rattle.meaning.specs.Limits.{most_columns, most_bytes, plan_bytes, last_edition}
 use Rattle.meaning.specs.Lists.{all, sum}
 use Rattle.meaning.specs.Plan.{judge_plan}
-use Rattle.meaning.specs.Says.{judged_says}
+use Rattle.meaning.specs.Says.{refusal_number, says}
 use Rattle.meaning.specs.Sheet.{edition_of, table_size, columns_of, column_at, is_edition, is_sheet, table_holds, column_count}
-use Rattle.meaning.specs.declared.Judged.{Judged}
-use Rattle.meaning.specs.declared.Judged.TheVariants.{Passed, Refused}
+use Rattle.meaning.specs.declared.Refusal.{Refusal}
 use Rattle.table.specs.Offsets.{slot_of, plan_offset, body_offset, blank_column}
 use Rattle.table.specs.Rules.{entry_holds, plan_judged}
 use Rattle.table.proofs.Columns.{plan-is, Counted, one-of-them, past-them, sizes-all}
@@ -95,15 +95,16 @@ module _ {sheet : List ℕ} {columns k : ℕ} (so : PlansSo sheet columns k) whe
         ap₂ judge_plan ek
         (ap₂ (λ (i j : ℕ). take i (drop j sheet)) size ef ∙ sym (plan-is sheet k (omega (arith, so.counted.so))))
 
-    pub plans-turn : {r : Judged} → judged_says r ≡ judge_plan kind part → r ≡ Passed → PlansSo sheet columns (k + 1)
+    pub plans-turn : {r : Result (Unit {0}) Refusal} {u : Unit {0}} → says r ≡ judge_plan kind part → r ≡ Ok u → PlansSo sheet columns (k + 1)
     plans-turn is e =
-        let passes = sym (is ∙ here) ∙ ap judged_says e in
+        let passes = sym (is ∙ here) ∙ ap says e in
         record {
           counted = so.counted;
           below = below-turn plan_judged (columns_of sheet) blank_column k so.below (one-of-them so.counted h) tt passes;
         }
 
-    pub plans-refuse : {r : Judged} {z : ℕ} → judged_says r ≡ judge_plan kind part → r ≡ Refused z → blamed z k ≡ in_turn plan_judged 0 (columns_of sheet)
+    pub plans-refuse : {r : Result (Unit {0}) Refusal} {z : Refusal} → says r ≡ judge_plan kind part → r ≡ Err z
+        → blamed (refusal_number z) k ≡ in_turn plan_judged 0 (columns_of sheet)
     plans-refuse {z = z} is e =
-        let refuses = sym (is ∙ here) ∙ ap judged_says e in
-        sym (below-refuse plan_judged (columns_of sheet) blank_column k so.below (one-of-them so.counted h) z refuses)
+        let refuses = sym (is ∙ here) ∙ ap says e in
+        sym (below-refuse plan_judged (columns_of sheet) blank_column k so.below (one-of-them so.counted h) (refusal_number z) refuses)

@@ -1,26 +1,14 @@
 -- One possible answer: two answers that meet the contract are equal. Assumes nothing.
 use Prim.Native.Nat.{ℕ}
-use mathlib.Core.Path.{◌≡◌, refl, sym, ◌∙◌}
+use mathlib.Core.Path.{◌≡◌, sym, ◌∙◌}
 use mathlib.Core.List.{List}
-use Rattle.meaning.specs.Answer.{list, number}
+use Rattle.std.specs.Prelude.{Result}
+use Rattle.std.specs.Borrow.{Bor}
 use Rattle.meaning.specs.Operations.{fetch}
-use Rattle.meaning.specs.Says.{checked_says}
-use Rattle.meaning.specs.declared.Checked.{Checked}
-use Rattle.meaning.specs.declared.Checked.TheVariants as checked
+use Rattle.meaning.specs.Says.{says_by, part_told}
+use Rattle.meaning.specs.declared.Refusal.{Refusal}
 
--- answers that say the same are the same
-pub checked-same : (r r' : Checked) → checked_says r ≡ checked_says r' → r ≡ r'
-checked-same checked.Passed checked.Passed e = refl
-checked-same checked.Passed (checked.Refused z k) e = cc
-checked-same (checked.Refused z k) checked.Passed e = cc
-checked-same (checked.Refused z k) (checked.Refused y j) e =
-    let p : z ≡ y = cc in
-    let q : k ≡ j = cc in
-    rw (p, q)
-
--- the part's contents and the refusal's number
-pub one-fetch : (sheet : List ℕ) (k : ℕ) (part part' : List ℕ) (told told' : ℕ)
-    → (part ≡ list (fetch sheet k)) × (told ≡ number (fetch sheet k))
-    → (part' ≡ list (fetch sheet k)) × (told' ≡ number (fetch sheet k))
-    → (part ≡ part') × (told ≡ told')
-one-fetch sheet k part part' told told' e f = (e.0 ∙ sym f.0, e.1 ∙ sym f.1)
+-- the part's contents, or the refusal
+pub one-fetch : (sheet : List ℕ) (k : ℕ) (r r' : Result (Bor (List ℕ)) Refusal)
+    → says_by part_told r ≡ fetch sheet k → says_by part_told r' ≡ fetch sheet k → says_by part_told r ≡ says_by part_told r'
+one-fetch sheet k r r' e f = e ∙ sym f

@@ -1,13 +1,13 @@
--- What a column's entry says, as the source's struct and enum.
-use Rattle.std.specs.Prelude.{ℕ, ◌+◌, ◌≤◌, ◌<◌, ◌≡◌, List, length, take, drop}
+-- What a column's entry says, as the source's struct.
+use Rattle.std.specs.Prelude.{ℕ, ◌+◌, ◌≤◌, ◌<◌, ◌≡◌, List, length, take, drop, Result, Ok, Err}
 use Rattle.meaning.specs.Answer.{given, refused, passed}
 use Rattle.meaning.specs.Limits.{plan_bytes}
 use Rattle.meaning.specs.Operations.{column}
 use Rattle.meaning.specs.Sheet.{body_begins, column_at, sound, edition_of, column_count}
 use Rattle.table.specs.Offsets.{plan_offset}
+use Rattle.meaning.specs.Says.{refusal_number}
+use Rattle.meaning.specs.declared.Refusal.{Refusal}
 use Rattle.table.specs.declared.Entry.{Entry}
-use Rattle.table.specs.declared.Column.{Column}
-use Rattle.table.specs.declared.Column.TheVariants.{At, Refused}
 
 -- the sheet is sound, and has a column k
 pub record Here (sheet : List ℕ) (k : ℕ) : Type 0 where
@@ -33,6 +33,6 @@ pub record Opened (sheet : List ℕ) (k : ℕ) (e : Entry) : Type 0 where
   pub entry : EntryIs sheet k e
 
 -- what asking for a column answers
-abbrev pub ColumnIs : List ℕ → ℕ → Column → Type 0
-ColumnIs sheet k (At e) = Opened sheet k e
-ColumnIs sheet k (Refused z) = column sheet k ≡ refused z
+abbrev pub ColumnIs : List ℕ → ℕ → Result Entry Refusal → Type 0
+ColumnIs sheet k (Ok e) = Opened sheet k e
+ColumnIs sheet k (Err z) = column sheet k ≡ refused (refusal_number z)

@@ -4,13 +4,13 @@
 ghost use Rattle.std.specs.Prelude.{◌≡◌};
 ghost use Rattle.meaning.specs.Answer.{passed};
 ghost use Rattle.meaning.specs.Promises.{Fetches};
-ghost use Rattle.meaning.specs.Says.{checked_says};
+ghost use Rattle.meaning.specs.Says.{verdict_says};
 ghost use Rattle.meaning.specs.Sheet.{sound as sound_of, largest_count};
 ghost use Rattle.table.specs.Entries.{Here, EntryIs, ColumnIs};
 
 use crate::entries::{body_start, column_count, count_at, kind_at, plan_start, size_at};
 use crate::rules::{is_sheet, plans_pass, table_holds};
-use meaning::{BAD_TABLE, Checked, NO_COLUMN, NO_SHEET, Offset};
+use meaning::{Fault, Offset, Refusal};
 
 pub mod entries;
 pub mod rules;
@@ -25,24 +25,17 @@ pub struct Entry {
     pub body: Offset,
 }
 
-// A column asked for: its entry, or the refusal.
-#[derive(Clone, Copy)]
-pub enum Column {
-    At(Entry),
-    Refused(u8),
-}
-
 // What every operation on a sheet asks first: 1; 2; each plan in turn, 3 before 4. A refusal names the column at fault.
-pub fn sound(sheet: &[u8]) -> Checked
-    ensures { checked_says result ≡ sound_of sheet.now }
+pub fn sound(sheet: &[u8]) -> Result<(), Fault>
+    ensures { verdict_says result ≡ sound_of sheet.now }
 {
     let known = is_sheet(sheet);
     if !known {
-        return Checked::Refused(NO_SHEET, 0);
+        return Err(Fault::from(Refusal::NoSheet));
     }
     let holds = table_holds(sheet);
     if !holds {
-        return Checked::Refused(BAD_TABLE, 0);
+        return Err(Fault::from(Refusal::BadTable));
     }
     plans_pass(sheet)
 }
@@ -85,36 +78,24 @@ pub fn largest_count(sheet: &[u8]) -> usize
 }
 
 // A column of a sheet, as every operation on one asks for it: 1; 2; the plans; 5.
-pub fn column_at(sheet: &[u8], column: usize) -> Column
+pub fn column_at(sheet: &[u8], column: usize) -> Result<Entry, Refusal>
     ensures { ColumnIs sheet.now column result }
 {
-    let checked = sound(sheet);
-    if let Checked::Refused(e, _) = checked {
-        return Column::Refused(e);
-    }
+    sound(sheet)?;
     let columns = column_count(sheet);
     if columns <= column {
-        return Column::Refused(NO_COLUMN);
+        return Err(Refusal::NoColumn);
     }
-    Column::At(entry_at(sheet, column))
+    Ok(entry_at(sheet, column))
 }
 
-// A column's body itself, a part of the lent sheet, empty on refusal. The refusal's number is told, 0 where the column is there.
-pub fn fetch<'a>(sheet: &'a [u8], column: usize, refusal: &mut u8) -> &'a [u8]
-    ensures { Fetches sheet.now column (result.now, refusal.new) }
+// A column's body itself, a part of the lent sheet.
+pub fn fetch<'a>(sheet: &'a [u8], column: usize) -> Result<&'a [u8], Refusal>
+    ensures { Fetches sheet.now column result }
 {
-    let found = column_at(sheet, column);
-    match found {
-        Column::At(entry) => {
-            *refusal = 0;
-            let body = entry.body;
-            let from = body.byte;
-            let to = from + entry.size;
-            &sheet[from..to]
-        }
-        Column::Refused(e) => {
-            *refusal = e;
-            &sheet[0..0]
-        }
-    }
+    let entry = column_at(sheet, column)?;
+    let body = entry.body;
+    let from = body.byte;
+    let to = from + entry.size;
+    Ok(&sheet[from..to])
 }

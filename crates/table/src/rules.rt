@@ -1,13 +1,13 @@
 // What a sheet must be: a sheet at all, with a table that holds, and plans that pass.
 ghost use Rattle.std.specs.Prelude.{◌≡◌, true, ◌≤◌, length};
 ghost use Rattle.meaning.specs.Answer.{in_turn};
-ghost use Rattle.meaning.specs.Says.{checked_says};
+ghost use Rattle.meaning.specs.Says.{verdict_says};
 ghost use Rattle.meaning.specs.Sheet.{table_size, columns_of, is_edition, is_sheet, table_holds};
 ghost use Rattle.table.specs.Rules.{plan_judged};
 
 use crate::entries::{body_start, column_count, entries_hold, kind_at, plan_start, slot_of};
 use judge::judge_plan;
-use meaning::{Checked, FIRST_EDITION, Judged, LAST_EDITION, MOST_BYTES, PLAN_BYTES};
+use meaning::{FIRST_EDITION, Fault, LAST_EDITION, MOST_BYTES, PLAN_BYTES};
 
 // A sheet's columns.
 const MOST_COLUMNS: u8 = 16;
@@ -59,9 +59,9 @@ pub fn table_holds(sheet: &[u8]) -> bool
 }
 
 // Each plan judged in turn: the first that is refused is at fault.
-pub fn plans_pass(sheet: &[u8]) -> Checked
+pub fn plans_pass(sheet: &[u8]) -> Result<(), Fault>
     requires { table_size sheet.now ≤ length sheet.now }
-    ensures { checked_says result ≡ in_turn plan_judged 0 (columns_of sheet.now) }
+    ensures { verdict_says result ≡ in_turn plan_judged 0 (columns_of sheet.now) }
 {
     let columns = column_count(sheet);
     let mut k: usize = 0;
@@ -71,10 +71,10 @@ pub fn plans_pass(sheet: &[u8]) -> Checked
         let from = plan.byte;
         let to = from + PLAN_BYTES;
         let judged = judge_plan(kind, &sheet[from..to]);
-        if let Judged::Refused(e) = judged {
-            return Checked::Refused(e, k);
+        if let Err(refusal) = judged {
+            return Err(Fault { refusal, column: k });
         }
         k += 1;
     }
-    Checked::Passed
+    Ok(())
 }

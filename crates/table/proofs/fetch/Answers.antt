@@ -1,24 +1,20 @@
--- `fetch` hands back the body that the entry names, or an empty part. Assumes nothing.
-use mathlib.Core.Path.{sym, ap}
+-- `fetch` hands back the body that the entry names. Assumes nothing.
+use mathlib.Core.Path.{sym}
 use native.Mathlib.Omega.{arith}
-use Rattle.meaning.specs.Answer.{list, number}
-use Rattle.table.proofs.ColumnLaws.{opened-by, refused-by, fetch-body, fetch-refused}
+use Rattle.std.proofs.lemmas.Result.{err_from_is_err_and}
+use Rattle.table.proofs.ColumnLaws.{fetch-body, fetch-refused}
 use Rattle.table.proofs.fetch.Goals as goal
 
 pub overflow_add-to : goal.overflow_add-to
-overflow_add-to c = omega (arith, (opened-by _ _ c.column_at-found.result _ c.column_at-found.ensures c.in-At.is).entry.body_fits)
+overflow_add-to c = omega (arith, c.in_ok-entry.ensures.entry.body_fits)
 
-pub returns-in-At : goal.returns-in-At
-returns-in-At c =
-    let f = fetch-body (opened-by _ _ c.column_at-found.result _ c.column_at-found.ensures c.in-At.is) in
-    (sym (ap list f), sym (ap number f))
+pub returns-in_err-entry : goal.returns-in_err-entry
+returns-in_err-entry c =
+    let p = err_from_is_err_and c.from_residual.result c.from_residual.ensures.1 in
+    rw (p.1, p.2) (sym (fetch-refused c.args.sheet.now c.args.column _ c.in_err-entry.ensures))
 
-pub returns-in-Refused : goal.returns-in-Refused
-returns-in-Refused c =
-    let a = c.args in
-    let refusal = refused-by a.sheet.now a.column c.column_at-found.result _ c.column_at-found.ensures c.in-Refused.is in
-    let f = fetch-refused a.sheet.now a.column _ refusal in
-    (sym (ap list f), sym (ap number f))
+pub returns : goal.returns
+returns c = sym (fetch-body c.in_ok-entry.ensures)
 
 pub slice_bounds-result-end : goal.slice_bounds-result-end
-slice_bounds-result-end c = omega (arith, (opened-by _ _ c.column_at-found.result _ c.column_at-found.ensures c.in-At.is).entry.body_fits)
+slice_bounds-result-end c = omega (arith, c.in_ok-entry.ensures.entry.body_fits)

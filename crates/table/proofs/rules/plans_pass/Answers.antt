@@ -6,10 +6,10 @@ use Rattle.table.proofs.rules.plans_pass.Goals as goal
 pub loop-k-init : goal.loop-k-init
 loop-k-init c = record { counted = record { whole = c.requires; so = c.column_count-columns.ensures.0 }; below = refl }
 
-pub returns-in-Refused : goal.returns-in-Refused
-returns-in-Refused c =
+pub returns-in-Err : goal.returns-in-Err
+returns-in-Err c =
     plans-refuse c.loop-k.invariant c.loop-k-test.true c.kind_at-kind.ensures c.plan_start-plan.ensures.0 c.judge_plan-judged.ensures
-    c.in-Refused.is
+    c.in-Err.is
 
 pub loop-k-preserved : goal.loop-k-preserved
 loop-k-preserved c =
