@@ -6,6 +6,7 @@ use mathlib.Core.List.{List, [], ◌∷◌, map}
 use native.Mathlib.Nat.{sub-zero}
 use native.Mathlib.Omega.{arith}
 use lib.Count.{ones, count_leading_zeros, count_trailing_zeros, ones-ones}
+use Rattle.std.specs.Prelude.{Ok, Err}
 use lib.Dec.{leb, eqb}
 use lib.ListN.{length, get_or, take, drop, replicate, length-replicate}
 use lib.Seq.{sets, sets-eq, drop-append_seam}
@@ -16,10 +17,11 @@ use Rattle.meaning.specs.G8IU.{block_lengths, block_in, unit_g8iu}
 use Rattle.meaning.specs.Limits.{cut_short, broken, unit_places}
 use Rattle.meaning.specs.Lists.{all, sum}
 use Rattle.meaning.specs.Places.{UnitIs}
+use Rattle.meaning.specs.Says.{refusal_number}
 use Rattle.meaning.specs.Positions.{at_byte}
 use Rattle.meaning.specs.declared.Position.{Position}
+use Rattle.meaning.specs.declared.Refusal.{Refusal}
 use Rattle.meaning.specs.declared.UnitRead.{UnitRead}
-use Rattle.meaning.specs.declared.Unit.TheVariants as unit
 use Rattle.meaning.proofs.Answers.{need-given}
 use Rattle.meaning.proofs.Stores.{part-sets}
 use Rattle.meaning.proofs.Tests.{by_order, both_true}
@@ -146,9 +148,9 @@ first_of xs n h =
           ∙ rw z (drop-zeros (length xs) n),
     )
 
-pub unit-refused : (body : List ℕ) (left : ℕ) (p : Position) {e : ℕ} → unit_g8iu body left p ≡ refused e → {r : UnitRead} → UnitIs (refused e) r
-    → UnitIs (unit_g8iu body left p) r
-unit-refused body left p q is = rw q is
+pub unit-refused : (body : List ℕ) (left : ℕ) (p : Position) {z : Refusal} → unit_g8iu body left p ≡ refused (refusal_number z)
+    → UnitIs (unit_g8iu body left p) (Err z)
+unit-refused body left p e = record { told = sym e; few = λ u q. absurd (cc q); clear = λ u q. absurd (cc q) }
 
 -- a block stands at the position, and its control byte is allowed
 pub record Standing (body : List ℕ) (left : ℕ) (p : Position) : Type 0 where
@@ -165,8 +167,9 @@ module _ {body : List ℕ} {left : ℕ} {p : Position} (so : Standing body left 
     pub unit-fault : count ≡ 0 → unit_g8iu body left p ≡ refused broken
     unit-fault e = unit-numbers body left p so.inside so.allows (refused broken) (is.are ∙ ap or_fault (or-none 0 is.numbers (sym is.ends ∙ e)))
 
-    pub unit-next : (count ≡ 0 → ⊥) → UnitIs (unit_g8iu body left p) (record { unit = unit.Next (at_byte (p.head.byte + 9)) count; numbers = numbers })
-    unit-next some =
+    pub unit-next : (count ≡ 0 → ⊥) → {next : Position} → next ≡ at_byte (p.head.byte + 9)
+        → UnitIs (unit_g8iu body left p) (Ok (record { next = next; count = count; numbers = numbers }))
+    unit-next some {next} there =
         let xs = is.numbers in
         let (many, after) = or_some 0 xs (λ e. some (is.ends ∙ e)) in
         let g : numbers_at body p.head.byte ≡ given xs = is.are ∙ sym (or-given xs many) in
@@ -174,7 +177,7 @@ module _ {body : List ℕ} {left : ℕ} {p : Position} (so : Standing body left 
         let k : count ≡ length xs = omega (arith, is.ends) in
         let (t, d) = first_of xs unit_places (omega arith) in
         record {
-          told = rw (k, is.here, t) (sym (unit-numbers body left p so.inside so.allows (given xs) g));
-          few = omega arith;
-          clear = rw (k, is.here) d;
+          told = rw (there, k, is.here, t) (sym (unit-numbers body left p so.inside so.allows (given xs) g));
+          few = λ u q. let n : count ≡ u.count = cc in omega arith;
+          clear = λ u q. let v : ◌≡◌ {A = UnitRead} (record { next = next; count = count; numbers = numbers }) u = cc in rw (← v, k, is.here) d;
         }

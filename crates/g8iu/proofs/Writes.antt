@@ -26,11 +26,10 @@ pub record WriteSo (list : List ℕ) (first end at : ℕ) (out₀ out : List ℕ
   pub ends : to + length (write_g8iu (part list next (end - next))) ≡ at + length (write_g8iu (part list first (end - first)))
   pub rest : sets out to (write_g8iu (part list next (end - next))) ≡ sets out₀ at (write_g8iu (part list first (end - first)))
 
-pub write-start : {list : List ℕ} {first n at : ℕ} {out : List ℕ} → Source list first n at → WriteSo list first (first + n) at out out at first
-write-start {first = first} {n} source =
-    let m : first + n - first ≡ n = omega arith in
+pub write-start : {list : List ℕ} {at : ℕ} {out : List ℕ} → Source list at → WriteSo list 0 (length list) at out out at 0
+write-start source =
     record {
-      inside = source.inside;
+      inside = omega arith;
       short = omega (arith, source.short);
       low = omega arith;
       high = omega arith;
@@ -86,8 +85,7 @@ module _ {list : List ℕ} {first end at : ℕ} {out₀ out : List ℕ} {to next
           rest = ap₂ (λ (l : List ℕ) (n : ℕ). sets l (to + n) w) p.here (sym nine) ∙ sets-append b w out to ∙ ap (sets out to) (sym written) ∙ so.rest;
         }
 
-  pub write-end : (n : ℕ) → end ≡ first + n → end ≤ next → Wrote (write_g8iu (part list first n)) at out₀ out (record { byte = to })
-  write-end n e h =
+  pub write-end : end ≤ next → Wrote (write_g8iu (part list first (end - first))) at out₀ out (record { byte = to })
+  write-end h =
       let z : end - next ≡ 0 = omega arith in
-      let m : end - first ≡ n = omega arith in
-      record { ends = sym (add-zero to) ∙ rw m at (rw (z, write-none) at so.ends); here = rw m at (rw (z, write-none) at so.rest) }
+      record { ends = sym (add-zero to) ∙ (rw (z, write-none) at so.ends); here = rw (z, write-none) at so.rest }

@@ -1,47 +1,36 @@
 // Code 3, G8IU: blocks of a control byte and 8 data bytes. Bit i is 0 when data byte i ends a number.
 #![tactic(auto)]
 
-ghost use Rattle.std.specs.Prelude.{◌≡◌, ◌-◌, ◌/◌, ◌≤◌, length, take};
-ghost use Rattle.meaning.specs.Answer.{refused};
+ghost use Rattle.std.specs.Prelude.{◌≡◌, ◌-◌, ◌/◌, ◌≤◌, length};
 ghost use Rattle.meaning.specs.Codes.{code_g8iu};
 ghost use Rattle.meaning.specs.G8IU.{block_lengths};
 ghost use Rattle.meaning.specs.Limits.{most_bytes, unit_places};
-ghost use Rattle.meaning.specs.Places.{Source, Target, Wrote, UnitIs, Took, Ends, Spare, part};
+ghost use Rattle.meaning.specs.Places.{Source, Target, Wrote, UnitIs, Took, Ends, Spare};
 ghost use Rattle.meaning.specs.Positions.{at_byte};
 ghost use Rattle.g8iu.specs.Blocks.{allowed, Plain};
 
 use crate::putting::put_block;
 use crate::taking::{LEAST, MOST, has_block, take_ends};
-use leaves::{from_byte, lesser, taken, wide};
-use meaning::{BROKEN, CUT_SHORT, Offset, Place, Position, Taken, Unit, UnitRead};
-use words::byte_length;
+use leaves::{from_byte, taken};
+use meaning::{Offset, Place, Position, Refusal, Taken, UnitRead};
+use words::data_length;
 
 mod putting;
 mod taking;
 
-// Writes n numbers of a list, from a place on, to an output, from an offset on, and answers the offset after them.
-pub fn write(list: &[u32], from: Place, n: usize, out: &mut [u8], at: Offset) -> Offset
-    requires { Source list.now from.number n at.byte }
-    ensures { Wrote (code_g8iu.write (part list.now from.number n)) at.byte out.old out.new result }
+// Writes a list to an output, from an offset on, and answers the offset after it.
+pub fn write(list: &[u32], out: &mut [u8], at: Offset) -> Offset
+    requires { Source list.now at.byte }
+    ensures { Wrote (code_g8iu.write list.now) at.byte out.old out.new result }
 {
-    let end = from.number + n;
-    let mut next = from;
+    let end = list.len();
+    let mut next = Place { number: 0 };
     let mut to = at.byte;
     while next.number < end {
         next = put_block(list, next, Place { number: end }, out, Offset { byte: to });
         to += 9;
     }
     Offset { byte: to }
-}
-
-// A unit that is refused has no numbers.
-fn refusal(number: u8) -> UnitRead
-    ensures { UnitIs (refused number) result }
-{
-    UnitRead {
-        unit: Unit::Refused(number),
-        numbers: [0u32; 16],
-    }
 }
 
 // Whether a control byte is allowed where so many numbers are still to come: its block holds one at least and none beyond the list, and
@@ -59,27 +48,27 @@ fn is_allowed(control: u8, left: usize) -> bool
     if count == left {
         return true;
     }
-    16 <= 255 - wide(control)
+    16 <= 255 - u32::from(control)
 }
 
 // Reads the unit at a position: a block.
-pub fn unit(body: &[u8], left: usize, at: Position) -> UnitRead
+pub fn unit(body: &[u8], left: usize, at: Position) -> Result<UnitRead, Refusal>
     requires { length body.now ≤ most_bytes }
     ensures { UnitIs (code_g8iu.unit body.now left at) result }
 {
     let head = at.head;
     let first = head.byte;
     if !has_block(body, head) {
-        return refusal(CUT_SHORT);
+        return Err(Refusal::CutShort);
     }
     let control = body[first];
     if !is_allowed(control, left) {
-        return refusal(BROKEN);
+        return Err(Refusal::Broken);
     }
     let most = MOST;
     let least = LEAST;
     let mut numbers = [0u32; 16];
-    let ends = 255 - wide(control);
+    let ends = 255 - u32::from(control);
     let count = take_ends(
         body,
         head,
@@ -90,13 +79,13 @@ pub fn unit(body: &[u8], left: usize, at: Position) -> UnitRead
         Place { number: 0 },
     );
     if count.number == 0 {
-        return refusal(BROKEN);
+        return Err(Refusal::Broken);
     }
-    let next = from_byte(Offset { byte: first + 9 });
-    UnitRead {
-        unit: Unit::Next(next, count.number),
+    Ok(UnitRead {
+        next: from_byte(Offset { byte: first + 9 }),
+        count: count.number,
         numbers,
-    }
+    })
 }
 
 // The ends of a plain block: 0 where there is none at the offset, where more than 3 of its bytes are waste, and where its first number would have
@@ -108,7 +97,7 @@ fn plain_ends(body: &[u8], at: Offset, spare: usize) -> u32
         return 0;
     }
     let here = at.byte;
-    let ends = 255 - wide(body[here]);
+    let ends = 255 - u32::from(body[here]);
     if ends < 16 {
         return 0;
     }
@@ -145,9 +134,9 @@ pub fn take(
     let least = LEAST;
     let head = at.head;
     let first = from.number;
-    let n = lesser(left, room);
+    let n = left.min(room);
     // From there on fewer than 8 numbers are still to come, or there is room for fewer.
-    let end = first + (n - lesser(n, 7));
+    let end = first + (n - n.min(7));
     let mut next = from;
     let mut to = head.byte;
     let mut spare: usize = 0;
@@ -168,19 +157,13 @@ pub fn take(
     reached(at, from, next, Offset { byte: to }, spare)
 }
 
-// What a block of so many numbers left spare of its 8 data bytes. The array is that of any code's unit, which may hold more numbers than a block.
-pub fn spare_after(numbers: [u32; 16], count: usize) -> usize
-    requires { count ≤ unit_places }
-    ensures { Spare code_g8iu.joins (take count numbers) result }
+// What a block of some numbers left spare of its 8 data bytes.
+pub fn spare_after(numbers: &[u32]) -> usize
+    requires { length numbers.now ≤ unit_places }
+    ensures { Spare code_g8iu.joins numbers.now result }
 {
-    if count == 0 {
+    if numbers.is_empty() {
         return 0;
     }
-    let mut used: usize = 0;
-    let mut i: usize = 0;
-    while i < count {
-        used += byte_length(numbers[i]);
-        i += 1;
-    }
-    8 - lesser(used, 8)
+    8usize.saturating_sub(data_length(numbers))
 }

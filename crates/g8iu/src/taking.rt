@@ -4,7 +4,6 @@ ghost use Rattle.std.proofs.lemmas.List.Edits.{sets};
 ghost use Rattle.meaning.specs.Places.{part};
 ghost use Rattle.g8iu.specs.Blocks.{Ending, BlockIs, BegunIs};
 
-use leaves::lesser;
 use meaning::{Offset, Place};
 use words::{eight_at, take_eight};
 
@@ -19,7 +18,7 @@ pub fn has_block(body: &[u8], at: Offset) -> bool
     ensures { result ≡ leb (at.byte + 9) (length body.now) }
 {
     let len = body.len();
-    at.byte < len - lesser(len, 8)
+    at.byte < len - len.min(8)
 }
 
 // Copies eight numbers.

@@ -18,4 +18,4 @@ pub returns-then-count-left : goal.returns-then-count-left
 returns-then-count-left c = allows-last (omega arith) c.args.left refl (omega arith) (omega arith) c.if-count-left.true
 
 pub returns : goal.returns
-returns c = rw c.wide.ensures.0 (allows-full (omega arith) c.args.left refl (omega arith) (omega arith) c.if-count-left.false)
+returns c = rw c.from.ensures (allows-full (omega arith) c.args.left refl (omega arith) (omega arith) c.if-count-left.false)

@@ -18,9 +18,9 @@ pub bounds-body-here : goal.bounds-body-here
 bounds-body-here c = omega (arith, inside c.args.at.byte c.args.body.now c.has_block.ensures c.if-not-has_block.false)
 
 pub overflow_cast-ends : goal.overflow_cast-ends
-overflow_cast-ends c = omega (arith, trailing_le 32 (255 - c.wide-ends.result))
+overflow_cast-ends c = omega (arith, trailing_le 32 (255 - c.from-ends.result))
 
 pub returns : goal.returns
 returns c =
     let within = inside c.args.at.byte c.args.body.now c.has_block.ensures c.if-not-has_block.false in
-    λ some. record { inside = within; zeros = rw c.wide-ends.ensures.0; full = omega arith; joins = omega arith }
+    λ some. record { inside = within; zeros = rw c.from-ends.ensures; full = omega arith; joins = omega arith }

@@ -5,7 +5,7 @@ use Rattle.g8iu.proofs.Takes.{going_start, going-long, going_on, going_end, goin
 use Rattle.g8iu.proofs.take.Goals as goal
 
 pub loop-next-init : goal.loop-next-init
-loop-next-init c = going_start (λ i. (c.type_inv.body i).fits) c.requires c.lesser-n.ensures c.lesser.ensures
+loop-next-init c = going_start (λ i. (c.type_inv.body i).fits) c.requires c.min-n.ensures c.min.ensures
 
 pub reached-requires : goal.reached-requires
 reached-requires c = going_on c.loop-next.invariant

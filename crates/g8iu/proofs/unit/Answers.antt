@@ -25,7 +25,6 @@ standing {body} {p = p} e t byte allows good =
 pub returns-then-not-has_block : goal.returns-then-not-has_block
 returns-then-not-has_block c =
     unit-refused _ c.args.left c.args.at (unit-short _ _ _ (sym c.has_block.ensures ∙ c.if-not-has_block.true))
-    c.refusal.ensures
 
 pub bounds-body-first : goal.bounds-body-first
 bounds-body-first c = omega (arith, inside c.args.at.head.byte c.args.body.now c.has_block.ensures c.if-not-has_block.false)
@@ -35,19 +34,18 @@ returns-then-not-is_allowed c =
     unit-refused _ c.args.left c.args.at
     (unit-barred _ _ _ (inside c.args.at.head.byte c.args.body.now c.has_block.ensures c.if-not-has_block.false)
     (sym c.is_allowed.ensures ∙ c.if-not-is_allowed.true))
-    c.refusal-then-not-is_allowed.ensures
 
 pub take_ends-count-requires : goal.take_ends-count-requires
 take_ends-count-requires c =
     let so : Standing c.args.body.now c.args.left c.args.at =
     standing c.has_block.ensures c.if-not-has_block.false (c.type_inv.body _).fits c.is_allowed.ensures c.if-not-is_allowed.false in
-    unit-asks so (rw c.wide-ends.ensures.0)
+    unit-asks so (rw c.from-ends.ensures)
 
 pub returns-then-count-eq0 : goal.returns-then-count-eq0
 returns-then-count-eq0 c =
     let so : Standing c.args.body.now c.args.left c.args.at =
     standing c.has_block.ensures c.if-not-has_block.false (c.type_inv.body _).fits c.is_allowed.ensures c.if-not-is_allowed.false in
-    unit-refused _ _ _ (unit-fault so c.take_ends-count.ensures c.if-count-eq0.true) c.refusal-then-count-eq0.ensures
+    unit-refused _ _ _ (unit-fault so c.take_ends-count.ensures c.if-count-eq0.true)
 
 pub overflow_add-first : goal.overflow_add-first
 overflow_add-first c = omega (arith, inside c.args.at.head.byte c.args.body.now c.has_block.ensures c.if-not-has_block.false)
@@ -56,4 +54,4 @@ pub returns : goal.returns
 returns c =
     let so : Standing c.args.body.now c.args.left c.args.at =
     standing c.has_block.ensures c.if-not-has_block.false (c.type_inv.body _).fits c.is_allowed.ensures c.if-not-is_allowed.false in
-    rw c.from_byte-next.ensures (unit-next so c.take_ends-count.ensures c.if-count-eq0.false)
+    unit-next so c.take_ends-count.ensures c.if-count-eq0.false c.from_byte.ensures

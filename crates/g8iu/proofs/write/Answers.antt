@@ -1,5 +1,8 @@
 -- `write` puts block after block: what is still to be written, put from here on, makes the whole (`Writes`). Assumes nothing.
-use mathlib.Core.Path.{refl}
+use Rattle.std.proofs.Common.{◌≡◌, ◌-◌, length}
+use native.Mathlib.Nat.{sub-zero}
+use lib.Seq.{take-length}
+use Rattle.meaning.specs.Places.{part}
 use native.Mathlib.Omega.{arith}
 use Rattle.g8iu.proofs.Writes.{write-start, write-asks, write-less, write-turn, write-end}
 use Rattle.g8iu.proofs.write.Goals as goal
@@ -23,4 +26,7 @@ pub shape_of-out : goal.shape_of-out
 shape_of-out c = c.loop-next.invariant.long
 
 pub returns : goal.returns
-returns c = write-end c.loop-next.invariant _ refl c.loop-next-test.false
+returns c =
+    let l = c.args.list.now in
+    let all : part l 0 (length l - 0) ≡ l = rw sub-zero (take-length l) in
+    rw all at (write-end c.loop-next.invariant c.loop-next-test.false)

@@ -4,7 +4,7 @@ use Rattle.g8iu.proofs.Writes.{WriteSo}
 use Rattle.g8iu.proofs.write.Given as goal
 
 abbrev pub invariant-loop-next : goal.invariant-loop-next
-invariant-loop-next l = WriteSo l.list l.initial.next.number l.end l.initial.to l.initial.out l.out l.to l.next.number
+invariant-loop-next l = WriteSo l.list 0 l.end l.initial.to l.initial.out l.out l.to l.next.number
 
 abbrev pub decreases-loop-next : goal.decreases-loop-next
 decreases-loop-next l = l.end - l.next.number

@@ -11,5 +11,5 @@ returns c =
     let at = c.args.at.byte in
     let len = length c.args.body.now in
     by_order len (at + 9)
-    (λ h. rw (lt-leb (at + 9) len h) (le-ltb at (len - c.lesser.result) (omega arith)))
-    (λ h. rw (le-leb (at + 9) len h) (lt-ltb at (len - c.lesser.result) (omega arith)))
+    (λ h. rw (lt-leb (at + 9) len h) (le-ltb at (len - c.min.result) (omega arith)))
+    (λ h. rw (le-leb (at + 9) len h) (lt-ltb at (len - c.min.result) (omega arith)))
