@@ -1,27 +1,28 @@
 -- What it says of a body that the parts of d data bytes fit it: where they end, and which byte has a data byte's bit. Assumes nothing.
 use Prim.Native.Nat.{ℕ, ◌+◌, ◌-◌, ◌*◌, ◌/◌, ◌%◌, ◌^◌, ◌≤◌, ◌<◌}
 use mathlib.Core.Path.{◌≡◌, refl, sym, ap, ◌∙◌}
-use mathlib.Core.Bool.{Bool, true, false, cond}
+use mathlib.Core.Bool.{Bool, true, false}
 use mathlib.Core.List.{List}
 use native.Mathlib.Omega.{arith}
 use lib.Dec.{leb}
 use lib.ListN.{length, get_or, take, drop, length-drop}
 use lib.Seq.{get_or-take, get_or-drop, drop-drop, drop_at, take-add, length-take-le}
 use borrow.Author.Tests.{leb-true, le-leb, lt-leb}
-use Rattle.meaning.specs.Answer.{given, refused, need, number}
+use Rattle.std.specs.Prelude.{Result, Ok, Err}
+use Rattle.meaning.specs.Answer.{given, refused, need}
 use Rattle.meaning.specs.Bits.{low_bits}
 use Rattle.meaning.specs.Bytes.{word_at}
 use Rattle.meaning.specs.Direct.{flag_bytes, sum_count, sums_at, data_at, parts_fit, flags}
 use Rattle.meaning.specs.Limits.{cut_short}
 use Rattle.meaning.specs.Places.{Below}
+use Rattle.meaning.specs.Says.{says, refusal_number}
+use Rattle.meaning.specs.declared.Refusal.{Refusal}
 use Rattle.meaning.proofs.Answers.{not-given, need-given}
 use Rattle.meaning.proofs.Bounds.{below-take}
 use Rattle.meaning.proofs.Tests.{both_true}
 use Rattle.words.proofs.Bytes.{number_small}
 use Rattle.words.proofs.LowBits.{low-length, low_below, low-drop, low-get}
-use Rattle.direct.specs.Parts.{Fit, heading_says, head_refusal}
-use Rattle.direct.specs.declared.input.Heading.{Heading}
-use Rattle.direct.specs.declared.input.Heading.TheVariants as heading
+use Rattle.direct.specs.Parts.{Fit}
 
 -- ---- the header
 module _ (body : List ℕ) where
@@ -39,34 +40,19 @@ module _ (body : List ℕ) where
     head-fits h = rw (le-leb 4 (length body) head, ← is) (le-leb (data_at d + d) (length body) h)
 
   -- what a heading says
-  module _ {h : Heading} (told : heading_says h ≡ need (parts_fit body) cut_short (given (word_at body 0))) where
-    pub heading-fits : {d : ℕ} → h ≡ heading.Data d → Fit body d
+  module _ {r : Result ℕ Refusal} (told : says r ≡ need (parts_fit body) cut_short (given (word_at body 0))) where
+    pub heading-fits : {d : ℕ} → r ≡ Ok d → Fit body d
     heading-fits {d} e =
-        let (fits, q) = need-given (parts_fit body) cut_short (given (word_at body 0)) d (sym told ∙ ap heading_says e) in
+        let (fits, q) = need-given (parts_fit body) cut_short (given (word_at body 0)) d (sym told ∙ ap says e) in
         let is : word_at body 0 ≡ d = cc in
         record { fits = fits; is = sym is }
 
-    pub heading-none : {e : ℕ} → h ≡ heading.Refused e → (parts_fit body ≡ false) × (head_refusal h ≡ cut_short)
-    heading-none {e} q =
-        let (unfit, is) = none (parts_fit body) (word_at body 0) e (sym told ∙ ap heading_says q) in
-        (unfit, ap head_refusal q ∙ is)
+    pub heading-none : {e : Refusal} → r ≡ Err e → (parts_fit body ≡ false) × (refusal_number e ≡ cut_short)
+    heading-none {e} q = none (parts_fit body) (word_at body 0) (refusal_number e) (sym told ∙ ap says q)
       where
-        none : (b : Bool) (x r : ℕ) → need b cut_short (given x) ≡ refused r → (b ≡ false) × (r ≡ cut_short)
-        none true x r q = absurd (not-given r x (sym q))
-        none false x r q = let is : cut_short ≡ r = cc in (refl, sym is)
-
-  -- its refusal; the heading is explicit, since the result is by cases on it
-  pub heading-refusal : (h : Heading) → heading_says h ≡ need (parts_fit body) cut_short (given (word_at body 0))
-      → head_refusal h ≡ cond (parts_fit body) 0 cut_short
-  heading-refusal h told = says h ∙ ap number told ∙ needs (parts_fit body)
-    where
-      says : (h : Heading) → head_refusal h ≡ number (heading_says h)
-      says (heading.Data d) = refl
-      says (heading.Refused e) = refl
-
-      needs : (b : Bool) → number (need b cut_short (given (word_at body 0))) ≡ cond b 0 cut_short
-      needs true = refl
-      needs false = refl
+        none : (b : Bool) (x k : ℕ) → need b cut_short (given x) ≡ refused k → (b ≡ false) × (k ≡ cut_short)
+        none true x k q = absurd (not-given k x (sym q))
+        none false x k q = let is : cut_short ≡ k = cc in (refl, sym is)
 
 -- ---- where the parts end
 pub record Standing (body : List ℕ) (d : ℕ) : Type 0 where

@@ -10,11 +10,10 @@ use Rattle.meaning.specs.Bits.{zeros_first}
 use Rattle.meaning.specs.DataBytes.{byte_length, fewest, data_bytes}
 use Rattle.meaning.specs.Direct.{last_bits}
 use Rattle.meaning.specs.Lists.{sum, joined}
-use Rattle.meaning.specs.Places.{Below, part}
+use Rattle.meaning.specs.Places.{Below}
 use Rattle.meaning.specs.Rank.{ones_before}
 use Rattle.meaning.proofs.Bounds.{below-nil, below-cons, below-append, below-zeros}
 use Rattle.leaves.proofs.Joined.{joined-append, joined-next, sum-append}
-use Rattle.leaves.proofs.Parts.{part-cons}
 use Rattle.words.proofs.DataBytes.{held, few-length}
 
 -- ---- zeros and a one
@@ -91,11 +90,6 @@ pub flags-sum : (xs : List ℕ) → sum (joined last_bits xs) ≡ length xs
 unfolding joined sum
 flags-sum [] = refl
 flags-sum (x ∷ xs) = sum-append (last_bits x) (joined last_bits xs) ∙ omega (arith, last_sum x, flags-sum xs)
-
--- the bits of a part of a list: its first number's, and the others'
-pub flags-part : (xs : List ℕ) (from n : ℕ) → 0 < n → from + n ≤ length xs
-    → joined last_bits (part xs from n) ≡ last_bits (get_or xs from 0) ++ joined last_bits (part xs (from + 1) (n - 1))
-flags-part xs from n some inside = rw (part-cons xs from n some inside) (flags-cons (get_or xs from 0) (part xs (from + 1) (n - 1)))
 
 -- ---- where the bits of number i begin
 abbrev pub begins : List ℕ → ℕ → ℕ

@@ -7,6 +7,7 @@ use native.Mathlib.Omega.{arith}
 use lib.ListN.{take, drop, length-take}
 use lib.Seq.{take-take, take_all}
 use borrow.Author.Tests.{lt-ltb, le-ltb}
+use Rattle.std.specs.Prelude.{Result, Ok, Err}
 use Rattle.meaning.specs.Answer.{given, refused, bind}
 use Rattle.meaning.specs.Bits.{low_bits}
 use Rattle.meaning.specs.Direct.{sum_count, parts_fit, sum_at, stretch_from, stretch_of, ended_before, stretch_bits, ending_at, look_direct}
@@ -14,10 +15,9 @@ use Rattle.meaning.specs.Limits.{cut_short, broken, no_place}
 use Rattle.meaning.specs.Lists.{sum}
 use Rattle.meaning.specs.Places.{Below}
 use Rattle.meaning.specs.Rank.{ones_before, one_at}
-use Rattle.meaning.specs.Says.{selected_says}
+use Rattle.meaning.specs.Says.{says_by, bit_told}
 use Rattle.meaning.specs.declared.Bit.{Bit}
-use Rattle.meaning.specs.declared.Selected.{Selected}
-use Rattle.meaning.specs.declared.Selected.TheVariants as selected
+use Rattle.meaning.specs.declared.Refusal.{Refusal}
 use Rattle.meaning.proofs.Answers.{not-given}
 use Rattle.meaning.proofs.Bounds.{below-take}
 use Rattle.meaning.proofs.Ranks.{one-is, one-some, one_none, one-given, one-among, one-beyond, ones-add}
@@ -126,21 +126,21 @@ module _ {body : List ℕ} {d place : ℕ} (fit : Fit body d) {r : Stretch} (lea
   look_is = rw (← lead.is, ← lead.before, bits_are)
 
   -- what is found in the words that hold them
-  module _ {m : ℕ} (are : m ≡ many) (f : Selected) (told : selected_says f ≡ one_at no_place (place - r.ended) (take (64 * ((m + 63) / 64)) here)) where
+  module _ {m : ℕ} (are : m ≡ many) (f : Result Bit Refusal) (told : says_by bit_told f ≡ one_at no_place (place - r.ended) (take (64 * ((m + 63) / 64)) here)) where
     abbrev words : ℕ
     words = (m + 63) / 64
 
     enough : many ≤ 64 * words
     enough = omega arith
 
-    pub look_none : {z : ℕ} → f ≡ selected.Refused z → refused broken ≡ look_fit body place
+    pub look_none : {z : Refusal} → f ≡ Err z → refused broken ≡ look_fit body place
     look_none {z} e =
-        let none = one-nowhere here below (place - r.ended) many (64 * words) enough (sym told ∙ ap selected_says e) in
+        let none = one-nowhere here below (place - r.ended) many (64 * words) enough (sym told ∙ ap (says_by bit_told) e) in
         rw look_is (rw none)
 
-    module _ {b : Bit} (e : f ≡ selected.At b) where
+    module _ {b : Bit} (e : f ≡ Ok b) where
       at_b : one_at no_place (place - r.ended) (take (64 * words) here) ≡ given b.index
-      at_b = sym told ∙ ap selected_says e
+      at_b = sym told ∙ ap (says_by bit_told) e
 
       pub found-few : b.index < 64 * ((m + 63) / 64)
       found-few =

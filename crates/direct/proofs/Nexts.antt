@@ -5,31 +5,30 @@ use mathlib.Core.Bool.{Bool, true, false}
 use mathlib.Core.List.{List, [], ◌∷◌}
 use native.Mathlib.Omega.{arith}
 use lib.Dec.{leb, eqb}
-use lib.ListN.{length, set, take, drop, length-set}
+use lib.ListN.{length, set, take, drop, replicate, length-set}
 use lib.Seq.{length-sets}
 use borrow.Author.Tests.{le-leb, lt-leb, eq-eqb, ne_eqb}
+use Rattle.std.specs.Prelude.{Result, Ok, Err}
 use Rattle.meaning.specs.Answer.{Answer, given, refused, bind, need}
 use Rattle.meaning.specs.Bits.{zeros_first}
 use Rattle.meaning.specs.Bytes.{number_of, word_at}
 use Rattle.meaning.specs.Codes.{code_direct}
 use Rattle.meaning.specs.DataBytes.{byte_length}
 use Rattle.meaning.specs.Direct.{data_at, parts_fit, flags, number_in, unit_direct}
-use Rattle.meaning.specs.Limits.{cut_short, broken}
-use Rattle.meaning.specs.Places.{Target, Took, Ends}
+use Rattle.meaning.specs.Limits.{cut_short, broken, unit_places}
+use Rattle.meaning.specs.Places.{Target, Took, Ends, UnitIs}
 use Rattle.meaning.specs.Positions.{at_bit}
-use Rattle.meaning.specs.Says.{found_says}
-use Rattle.meaning.specs.declared.Bit.{Bit}
-use Rattle.meaning.specs.declared.Found.{Found}
-use Rattle.meaning.specs.declared.Found.TheVariants as found
+use Rattle.meaning.specs.Says.{says, says_by, refusal_number}
 use Rattle.meaning.specs.declared.Position.{Position}
+use Rattle.meaning.specs.declared.Refusal.{Refusal}
 use Rattle.meaning.specs.declared.Taken.{Taken}
+use Rattle.meaning.specs.declared.UnitRead.{UnitRead}
 use Rattle.meaning.proofs.Answers.{need-refused}
 use Rattle.meaning.proofs.Codes.{spare-always}
 use Rattle.meaning.proofs.Taking.{Takes, takes-start, takes-next, takes-long, takes-end}
 use Rattle.meaning.proofs.Tests.{by_order}
-use Rattle.direct.specs.Parts.{Fit, next_in, next_says, Begun}
+use Rattle.direct.specs.Parts.{Fit, next_in, next_told, Begun}
 use Rattle.direct.specs.declared.input.Next.{Next}
-use Rattle.direct.specs.declared.input.Next.TheVariants as next
 
 -- ---- in so many data bytes
 pub in-long : (body : List ℕ) (i l : ℕ) → 4 < l → number_in body i l ≡ refused broken
@@ -69,14 +68,14 @@ next-is {body} {d} fit i {len} e h =
     rw (l, ← fit.is, le-leb (i + len) d h))
 
 module _ {body : List ℕ} {d : ℕ} (fit : Fit body d) (i : ℕ) {len : ℕ} (e : len ≡ min 4 (behind body i) + 1) (h : i + len ≤ d)
-    (r : Found) (told : found_says r ≡ number_in body i len) where
-  next-told : next_in body i ≡ bind (found_says r) (λ x. given (x, i + len))
+    (r : Result ℕ Refusal) (told : says r ≡ number_in body i len) where
+  next-told : next_in body i ≡ bind (says r) (λ x. given (x, i + len))
   next-told = rw told (next-is fit i e h)
 
-  pub next-given : {x : ℕ} → r ≡ found.Number x → given (x, i + len) ≡ next_in body i
+  pub next-given : {x : ℕ} → r ≡ Ok x → given (x, i + len) ≡ next_in body i
   next-given q = sym (rw q at next-told)
 
-  pub next-refused : {z : ℕ} → r ≡ found.Refused z → refused z ≡ next_in body i
+  pub next-refused : {e : Refusal} → r ≡ Err e → refused (refusal_number e) ≡ next_in body i
   next-refused q = sym (rw q at next-told)
 
 -- ---- as a unit
@@ -89,10 +88,19 @@ one_unit-need true (given x) after = refl
 one_unit-need true (refused e) after = refl
 one_unit-need false m after = refl
 
+-- an answer, by what it says
+unit_is : (a : Answer (Position × List ℕ)) (u : UnitRead) → a ≡ given (u.next, take u.count u.numbers) → u.count ≤ unit_places
+    → drop u.count u.numbers ≡ replicate (unit_places - u.count) 0 → UnitIs a (Ok u)
+unit_is a u told few clear =
+    record { told = sym told; few = λ v e. let same : u ≡ v = cc in rw same at few; clear = λ v e. let same : u ≡ v = cc in rw same at clear }
+
+unit_none : (a : Answer (Position × List ℕ)) {e : Refusal} → a ≡ refused (refusal_number e) → UnitIs a (Err e)
+unit_none a told = record { told = sym told; few = λ u k. cc; clear = λ u k. cc }
+
 module _ (body : List ℕ) (left : ℕ) (p : Position) where
-  pub unit-unfit : parts_fit body ≡ false → unit_direct body left p ≡ refused cut_short
+  pub unit-unfit : {e : Refusal} → parts_fit body ≡ false → refusal_number e ≡ cut_short → UnitIs (unit_direct body left p) (Err e)
   unfolding unit_direct
-  unit-unfit e = rw e
+  unit-unfit unfit is = unit_none _ (rw (unfit, is))
 
   unit-is : parts_fit body ≡ true → unit_direct body left p ≡ bind (next_in body p.bit.index) one_unit
   unfolding unit_direct next_in
@@ -101,15 +109,19 @@ module _ (body : List ℕ) (left : ℕ) (p : Position) where
       let l = suc (behind body i) in
       rw e (one_unit-need (leb (i + l) (word_at body 0)) (number_in body i l) (i + l))
 
-  module _ {d : ℕ} (fit : Fit body d) (r : Next) (told : next_says r ≡ next_in body p.bit.index) where
-    unit-told : unit_direct body left p ≡ bind (next_says r) one_unit
+  module _ {d : ℕ} (fit : Fit body d) (r : Result Next Refusal) (told : says_by next_told r ≡ next_in body p.bit.index) where
+    unit-told : unit_direct body left p ≡ bind (says_by next_told r) one_unit
     unit-told = rw told (unit-is fit.fits)
 
-    pub unit-given : {x : ℕ} {after : Bit} → r ≡ next.Number x after → unit_direct body left p ≡ given (at_bit after.index, x ∷ [])
+    pub unit-given : {n : Next} → r ≡ Ok n → unit_direct body left p ≡ given (at_bit n.end.index, n.number ∷ [])
     unit-given e = rw e at unit-told
 
-    pub unit-refused : {z : ℕ} → r ≡ next.Refused z → unit_direct body left p ≡ refused z
-    unit-refused e = rw e at unit-told
+    pub unit-refused : {z : Refusal} → r ≡ Err z → UnitIs (unit_direct body left p) (Err z)
+    unit-refused e = unit_none _ (rw e at unit-told)
+
+    pub unit-here : {n : Next} → r ≡ Ok n
+        → UnitIs (unit_direct body left p) (Ok (record { next = at_bit n.end.index; count = 1; numbers = n.number ∷ replicate 15 0 }))
+    unit-here {n} e = unit_is _ (record { next = at_bit n.end.index; count = 1; numbers = n.number ∷ replicate 15 0 }) (unit-given e) (omega arith) refl
 
 -- of a position the bit alone matters
 alike : (body : List ℕ) (left : ℕ) (p : Position) → unit_direct body left p ≡ unit_direct body left (at_bit p.bit.index)
@@ -170,19 +182,19 @@ module _ {body : List ℕ} {d left : ℕ} {at : Position} {w₀ : List ℕ} {fro
       }
 
   module _ {w : List ℕ} {i b : ℕ} (t : Taking body d left at w₀ from most w i b) where
-    pub taking-turn : i < most → (r : Next) → next_says r ≡ next_in body b → {x : ℕ} {after : Bit} → r ≡ next.Number x after
-        → Taking body d left at w₀ from most (set w (from + i) x) (i + 1) after.index
-    taking-turn h r told {x} {after} e =
+    pub taking-turn : i < most → (r : Result Next Refusal) → says_by next_told r ≡ next_in body b → {n : Next} → r ≡ Ok n
+        → Taking body d left at w₀ from most (set w (from + i) n.number) (i + 1) n.end.index
+    taking-turn h r told {n} e =
         let more =
-        takes-next code_direct body left at w₀ from w i i 0 (at_bit b) t.so refl (at_bit after.index, x ∷ []) (set w (from + i) x)
-        (omega (arith, t.within)) (unit-given body (left - i) (at_bit b) t.fit r told e) (omega arith) (spare-always (x ∷ [])) refl in
+        takes-next code_direct body left at w₀ from w i i 0 (at_bit b) t.so refl (at_bit n.end.index, n.number ∷ []) (set w (from + i) n.number)
+        (omega (arith, t.within)) (unit-given body (left - i) (at_bit b) t.fit r told e) (omega arith) (spare-always (n.number ∷ [])) refl in
         record {
           fit = t.fit;
           so = more;
           few = omega arith;
           within = t.within;
           inside = t.inside;
-          long = takes-long code_direct body left at w₀ from (set w (from + i) x) (i + 1) (i + 1) 0 (at_bit after.index) more;
+          long = takes-long code_direct body left at w₀ from (set w (from + i) n.number) (i + 1) (i + 1) 0 (at_bit n.end.index) more;
         }
 
     pub taking-end : {room : ℕ} {q : Position} {r : Taken} → most ≡ min left room → q ≡ at_bit b → Ends at i i 0 q r
@@ -223,8 +235,8 @@ module _ {body : List ℕ} {d left : ℕ} {at : Position} {from most : ℕ} {w�
   onward-start fit short inside = record { fit = fit; short = short; inside = inside; long = refl; on = λ w₀ t. t }
 
   pub onward-turn : {w : List ℕ} {i b : ℕ} → Onward body d left at from most w₁ i₁ b₁ w i b
-      → i < most → (r : Next) → next_says r ≡ next_in body b → {x : ℕ} {after : Bit} → r ≡ next.Number x after
-      → Onward body d left at from most w₁ i₁ b₁ (set w (from + i) x) (i + 1) after.index
+      → i < most → (r : Result Next Refusal) → says_by next_told r ≡ next_in body b → {n : Next} → r ≡ Ok n
+      → Onward body d left at from most w₁ i₁ b₁ (set w (from + i) n.number) (i + 1) n.end.index
   onward-turn s h r told e =
       record {
         fit = s.fit;

@@ -6,13 +6,13 @@ use native.Mathlib.Nat.{add-zero}
 use native.Mathlib.Omega.{arith}
 use lib.ListN.{length, get_or, set, drop}
 use lib.Seq.{sets, drop-cons}
+use Rattle.std.specs.Prelude.{Ok}
 use Rattle.meaning.specs.Answer.{given}
 use Rattle.meaning.specs.Bits.{zeros_first}
 use Rattle.meaning.specs.Codes.{code_direct}
 use Rattle.meaning.specs.Direct.{flag_bytes, sum_count, sums_at, data_at, flags}
 use Rattle.meaning.specs.Places.{Below, Target, Ends, part}
 use Rattle.meaning.specs.Positions.{at_bit}
-use Rattle.meaning.specs.declared.Found.TheVariants as found
 use Rattle.meaning.specs.declared.Position.{Position}
 use Rattle.meaning.specs.declared.Taken.{Taken}
 use Rattle.meaning.proofs.Codes.{spare-always}
@@ -21,7 +21,6 @@ use Rattle.meaning.proofs.Taking.{took-none}
 use Rattle.leaves.proofs.Parts.{part_length, part-snoc}
 use Rattle.words.proofs.Straight.{number-1, fewest-1}
 use Rattle.direct.specs.Parts.{Fit, next_in, Begun}
-use Rattle.direct.specs.declared.input.Next.TheVariants as next
 use Rattle.direct.proofs.Fits.{standing, data-few, flags_long, flag-get}
 use Rattle.direct.proofs.Nexts.{in-given, next-given, Taking, taking-start, taking-turn, taking-end, begun-is}
 use Rattle.direct.proofs.Zeros.{no_zero}
@@ -69,7 +68,7 @@ module _ {body : List ℕ} {d : ℕ} (fit : Fit body d) (bound : Below 256 body)
         let z = no-zeros in
         let is : x ≡ _ = sym (number-1 body (data_at d + (b + k)) (omega (arith, eight-inside))) in
         let short = (fewest-1 [] 0 x (bound (data_at d + (b + k)))).0 in
-        next-given fit (b + k) {len = 1} (omega arith) (omega arith) (found.Number x)
+        next-given fit (b + k) {len = 1} (omega arith) (omega arith) (Ok x)
         (in-given fit (b + k) 1 (omega arith) is (omega arith)) refl
 
   module _ {left : ℕ} {at : Position} {w₀ : List ℕ} {from most : ℕ} {w : List ℕ} {n : ℕ} (t : Taking body d left at w₀ from most w n b)
@@ -84,7 +83,7 @@ module _ {body : List ℕ} {d : ℕ} (fit : Fit body d) (bound : Below 256 body)
         let j : b + k + 1 ≡ b + (k + 1) = omega arith in
         let stored : set (sets w (from + n) (part body (data_at d + b) k)) (from + (n + k)) x ≡ sets w (from + n) (part body (data_at d + b) (k + 1)) =
         rw (there, place) (stored_next body (data_at d + b) w (from + n) k (omega (arith, eight-inside))) in
-        rw (stored, i, j) at (taking-turn s (omega arith) (next.Number x (record { index = b + k + 1 })) (one-next k few) refl)
+        rw (stored, i, j) at (taking-turn s (omega arith) (Ok (record { number = x; end = record { index = b + k + 1 } })) (one-next k few) refl)
 
     none_yet : Taking body d left at w₀ from most (sets w (from + n) (part body (data_at d + b) 0)) (n + 0) (b + 0)
     none_yet = rw (add-zero n, add-zero b) t

@@ -7,20 +7,19 @@ use lib.Bits.{bit_and, and_mask}
 use lib.Count.{count_trailing_zeros, under}
 use lib.ListN.{length, get_or, set, take, drop, length-drop, take-append-drop}
 use lib.Seq.{drop_at, drop-drop, take-add, take_at, take-take, length-take-le}
+use Rattle.std.specs.Prelude.{Ok}
 use Rattle.meaning.specs.Answer.{given}
 use Rattle.meaning.specs.Bits.{bits_low, low_bits, zeros_first}
 use Rattle.meaning.specs.Bytes.{number_of, word_at}
 use Rattle.meaning.specs.DataBytes.{byte_length}
 use Rattle.meaning.specs.Direct.{flag_bytes, sum_count, sums_at, data_at, flags}
 use Rattle.meaning.specs.Places.{Below}
-use Rattle.meaning.specs.declared.Found.TheVariants as found
 use Rattle.meaning.specs.declared.Position.{Position}
 use Rattle.meaning.proofs.Bounds.{below-take, below-drop}
 use Rattle.words.proofs.Bytes.{number-few, number-low}
 use Rattle.words.proofs.LowBits.{bits-length, bits-low, bits-parts, low-take, low-drop, low-number}
 use Rattle.words.proofs.Straight.{fewest-1, fewest-2, fewest-3, fewest-4}
 use Rattle.direct.specs.Parts.{Fit, next_in}
-use Rattle.direct.specs.declared.input.Next.TheVariants as next
 use Rattle.direct.proofs.Fits.{standing, data-few, flags-from}
 use Rattle.direct.proofs.Nexts.{in-given, next-given, Onward, onward-start, onward-turn}
 
@@ -176,13 +175,13 @@ module _ {body : List ℕ} {d left : ℕ} {at : Position} {w₁ : List ℕ} {i�
           let e : number ≡ number_of (take (zeros + 1) (drop (data_at d + b) body)) =
           whole.is ∙ rw so.begins (ap number_of (take-take (zeros + 1) 4 (drop (data_at d + b) body) (omega arith))) in
           let z = told (omega arith) in
-          next-given so.onward.fit b (omega arith) (omega (arith, plain-near)) (found.Number number)
+          next-given so.onward.fit b (omega arith) (omega (arith, plain-near)) (Ok number)
           (in-given so.onward.fit b (zeros + 1) (omega arith) e whole.needs) refl
 
       pub plain_turn : i < most → Plainly body d left at w₁ i₁ b₁ from begin end most (set w (from + i) number) (i + 1) (b + (zeros + 1))
       plain_turn more =
           record {
-            onward = onward-turn so.onward more (next.Number number (record { index = b + (zeros + 1) })) plain-next refl;
+            onward = onward-turn so.onward more (Ok (record { number = number; end = record { index = b + (zeros + 1) } })) plain-next refl;
             bound = so.bound;
             begins = so.begins;
             ends = so.ends;

@@ -9,26 +9,26 @@ use Rattle.meaning.specs.Bytes.{bytes_of, word}
 use Rattle.meaning.specs.DataBytes.{data_bytes}
 use Rattle.meaning.specs.Direct.{flag_bytes, sum_count, sums_at, data_at, last_bits, direct_parts, write_direct}
 use Rattle.meaning.specs.Lists.{joined}
-use Rattle.meaning.specs.Places.{Source, Wrote, part}
+use Rattle.meaning.specs.Places.{Source, Wrote}
 use Rattle.meaning.specs.declared.Offset.{Offset}
 use Rattle.leaves.proofs.Putting.{wrote_after, wrote-past}
 use Rattle.words.proofs.Bytes.{bytes-length}
 use Rattle.words.proofs.LowBits.{pack-length}
-use Rattle.words.proofs.Puts.{data-bound}
+use Rattle.words.proofs.DataBytes.{data-most}
 use Rattle.direct.specs.Parts.{flags_of, sums_of}
 use Rattle.direct.proofs.Sums.{sums-length}
 use Rattle.direct.proofs.Written.{parts-length}
 
-module _ {list : List ℕ} {first n at d : ℕ} (asked : Source list first n at) (is : d ≡ length (data_bytes (part list first n))) where
-  pub data-few : d ≤ 4 * n
-  data-few = omega (arith, data-bound list first n asked.inside)
+module _ {xs : List ℕ} {at d : ℕ} (asked : Source xs at) (is : d ≡ length (data_bytes xs)) where
+  pub data-few : d ≤ 4 * length xs
+  data-few = omega (arith, data-most xs)
 
   -- no part stands too far
-  pub sums-near : at + sums_at d + 4 * n < 2 ^ 63
+  pub sums-near : at + sums_at d + 4 * length xs < 2 ^ 63
   unfolding sums_at flag_bytes
   sums-near = omega (arith, data-few, asked.short)
 
-  pub data-near : at + data_at d + 4 * n < 2 ^ 63
+  pub data-near : at + data_at d + 4 * length xs < 2 ^ 63
   unfolding data_at sums_at sum_count flag_bytes
   data-near = omega (arith, data-few, asked.short)
 

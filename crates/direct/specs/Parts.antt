@@ -1,6 +1,6 @@
 -- What this crate's helper functions ask and answer, in the meaning's words.
 use Rattle.std.specs.Prelude.{ℕ, suc, ◌+◌, ◌-◌, ◌*◌, ◌≤◌, ◌≡◌, true, List, leb, length, drop}
-use Rattle.meaning.specs.Answer.{Answer, given, refused, bind, need}
+use Rattle.meaning.specs.Answer.{Answer, given, bind, need}
 use Rattle.meaning.specs.Bits.{pack_low, zeros_first}
 use Rattle.meaning.specs.Bytes.{word_at}
 use Rattle.meaning.specs.DataBytes.{data_bytes}
@@ -13,20 +13,8 @@ use Rattle.meaning.specs.Positions.{at_bit}
 use Rattle.meaning.specs.Rank.{one_at}
 use Rattle.meaning.specs.declared.Position.{Position}
 use Rattle.meaning.specs.declared.Taken.{Taken}
-use Rattle.direct.specs.declared.input.Heading.{Heading}
-use Rattle.direct.specs.declared.input.Heading.TheVariants as heading
 use Rattle.direct.specs.declared.input.Next.{Next}
-use Rattle.direct.specs.declared.input.Next.TheVariants as next
 use Rattle.direct.specs.declared.looking.Stretch.{Stretch}
-
-abbrev pub heading_says : Heading → Answer ℕ
-heading_says (heading.Data d) = given d
-heading_says (heading.Refused e) = refused e
-
--- the number of the refusal; accepted is number 0
-abbrev pub head_refusal : Heading → ℕ
-head_refusal (heading.Data d) = 0
-head_refusal (heading.Refused e) = e
 
 -- the parts of d data bytes fit the body
 pub record Fit (body : List ℕ) (d : ℕ) : Type 0 where
@@ -39,9 +27,9 @@ next_in body i =
     let l = suc (zeros_first (drop i (flags body))) in
     need (leb (i + l) (word_at body 0)) broken (bind (number_in body i l) (λ x. given (x, i + l)))
 
-abbrev pub next_says : Next → Answer (ℕ × ℕ)
-next_says (next.Number x end) = given (x, end.index)
-next_says (next.Refused e) = refused e
+-- the same, as it is read
+abbrev pub next_told : Next → ℕ × ℕ
+next_told r = (r.number, r.end.index)
 
 -- numbers were taken, and taking goes on from there
 pub record Begun (body : List ℕ) (left : ℕ) (at : Position) (room from : ℕ) (work work' : List ℕ) (r : Taken) : Type 0 where

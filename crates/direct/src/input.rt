@@ -1,29 +1,21 @@
 // The parts of a body, its bits, and the number in some of its data bytes.
-ghost use Rattle.std.specs.Prelude.{◌≡◌, ◌+◌, ◌<◌, ◌≤◌, ◌^◌, min, cond, eqb, get_or, drop};
+ghost use Rattle.std.specs.Prelude.{◌≡◌, ◌+◌, ◌<◌, ◌≤◌, ◌^◌, min, eqb, get_or, drop};
 ghost use Rattle.meaning.specs.Answer.{given, need};
 ghost use Rattle.meaning.specs.Bits.{zeros_first};
 ghost use Rattle.meaning.specs.Bytes.{word_at};
 ghost use Rattle.meaning.specs.Direct.{sums_at, data_at, sum_count, parts_fit, flags, sum_at, number_in, zeros_before};
 ghost use Rattle.meaning.specs.Limits.{cut_short};
-ghost use Rattle.meaning.specs.Says.{found_says};
-ghost use Rattle.direct.specs.Parts.{heading_says, head_refusal, Fit, next_says, next_in};
+ghost use Rattle.meaning.specs.Says.{says, says_by};
+ghost use Rattle.direct.specs.Parts.{Fit, next_told, next_in};
 
-use leaves::whole;
-use meaning::{BROKEN, Bit, CUT_SHORT, Found, Offset};
+use meaning::{Bit, Offset, Refusal};
 use words::{byte_length, number_at, word_at};
 
-// The number of data bytes, where the parts' ends fit the body.
+// One number read: its value, and the data byte after it.
 #[derive(Clone, Copy)]
-pub enum Heading {
-    Data(usize),
-    Refused(u8),
-}
-
-// One number read: its value and the data byte after it, or the refusal.
-#[derive(Clone, Copy)]
-pub enum Next {
-    Number(u32, Bit),
-    Refused(u8),
+pub struct Next {
+    pub number: u32,
+    pub end: Bit,
 }
 
 // Where the sums begin, by the number of data bytes.
@@ -43,35 +35,25 @@ pub fn data_at(d: usize) -> usize
 }
 
 // The number of data bytes; all parts' ends must fit the body.
-pub fn heading_of(body: &[u8]) -> Heading
-    ensures { heading_says result ≡ need (parts_fit body.now) cut_short (given (word_at body.now 0)) }
+pub fn heading_of(body: &[u8]) -> Result<usize, Refusal>
+    ensures { says result ≡ need (parts_fit body.now) cut_short (given (word_at body.now 0)) }
 {
     let len = body.len();
     if len < 4 {
-        return Heading::Refused(CUT_SHORT);
+        return Err(Refusal::CutShort);
     }
-    let d = whole(word_at(body, Offset { byte: 0 }));
+    let d = word_at(body, Offset { byte: 0 }) as usize;
     if len < data_at(d) + d {
-        return Heading::Refused(CUT_SHORT);
+        return Err(Refusal::CutShort);
     }
-    Heading::Data(d)
+    Ok(d)
 }
 
-// The number of a heading's refusal, 0 where it is none.
-pub fn head_refusal(h: Heading) -> u8
-    ensures { result ≡ head_refusal h }
+// Whether all parts' ends fit the body.
+pub fn parts_fit(body: &[u8]) -> bool
+    ensures { result ≡ parts_fit body.now }
 {
-    match h {
-        Heading::Data(_) => 0,
-        Heading::Refused(e) => e,
-    }
-}
-
-// The refusal of a body that its parts' ends do not fit, 0 where they fit.
-pub fn parts_refusal(body: &[u8]) -> u8
-    ensures { result ≡ cond (parts_fit body.now) 0 cut_short }
-{
-    head_refusal(heading_of(body))
+    heading_of(body).is_ok()
 }
 
 // Whether a data byte ends no number: its bit is 0.
@@ -130,41 +112,42 @@ pub fn sum_at(body: &[u8], d: usize, s: usize) -> usize
     ensures { result ≡ sum_at body.now s }
 {
     let byte = sums_at(d) + 2 * s;
-    whole(number_at(body, Offset { byte }, 2))
+    number_at(body, Offset { byte }, 2) as usize
 }
 
 // The number in so many data bytes, the first of which is data byte i: at most 4, and the fewest.
-pub fn number_in(body: &[u8], d: usize, i: Bit, len: usize) -> Found
+pub fn number_in(body: &[u8], d: usize, i: Bit, len: usize) -> Result<u32, Refusal>
     requires { Fit body.now d × (1 ≤ len) × (i.index + len ≤ d) }
-    ensures { found_says result ≡ number_in body.now i.index len }
+    ensures { says result ≡ number_in body.now i.index len }
 {
     if 4 < len {
-        return Found::Refused(BROKEN);
+        return Err(Refusal::Broken);
     }
     let byte = data_at(d) + i.index;
     let x = number_at(body, Offset { byte }, len);
-    if byte_length(x) == len {
-        return Found::Number(x);
+    if byte_length(x) != len {
+        return Err(Refusal::Broken);
     }
-    Found::Refused(BROKEN)
+    Ok(x)
 }
 
 // The number whose first byte is data byte i: a bit from there on ends it.
-pub fn next_number(body: &[u8], d: usize, i: Bit) -> Next
+pub fn next_number(body: &[u8], d: usize, i: Bit) -> Result<Next, Refusal>
     requires { Fit body.now d }
-    ensures { next_says result ≡ next_in body.now i.index }
+    ensures { says_by next_told result ≡ next_in body.now i.index }
 {
     let first = i.index;
     if d <= first {
-        return Next::Refused(BROKEN);
+        return Err(Refusal::Broken);
     }
     let len = zeros_from(body, d, i) + 1;
     let index = first + len;
     if d < index {
-        return Next::Refused(BROKEN);
+        return Err(Refusal::Broken);
     }
-    match number_in(body, d, i, len) {
-        Found::Number(x) => Next::Number(x, Bit { index }),
-        Found::Refused(e) => Next::Refused(e),
-    }
+    let number = number_in(body, d, i, len)?;
+    Ok(Next {
+        number,
+        end: Bit { index },
+    })
 }

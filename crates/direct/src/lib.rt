@@ -14,41 +14,28 @@ ghost use Rattle.meaning.specs.Places.{Target, Took, UnitIs};
 ghost use Rattle.direct.specs.Parts.{Fit};
 
 use bits::words_of::ones_in;
-pub use input::parts_refusal;
-use input::{Heading, Next, data_at, heading_of, next_number, sum_at};
+pub use input::parts_fit;
+use input::{data_at, heading_of, next_number, sum_at};
 use leaves::{from_bit, lesser, taken};
 pub use looking::lookup;
-use meaning::{Offset, Place, Position, Taken, Unit, UnitRead};
+use meaning::{Offset, Place, Position, Refusal, Taken, UnitRead};
 pub use output::write;
 use plain::take_plain;
 
 // Reads the unit at a position: one number.
-pub fn unit(body: &[u8], left: usize, at: Position) -> UnitRead
+pub fn unit(body: &[u8], left: usize, at: Position) -> Result<UnitRead, Refusal>
     requires { length body.now ≤ most_bytes }
     ensures { UnitIs (code_direct.unit body.now left at) result }
 {
+    let d = heading_of(body)?;
+    let read = next_number(body, d, at.bit)?;
     let mut numbers = [0u32; 16];
-    let head = heading_of(body);
-    let Heading::Data(d) = head else {
-        return UnitRead {
-            unit: Unit::Refused(input::head_refusal(head)),
-            numbers,
-        };
-    };
-    match next_number(body, d, at.bit) {
-        Next::Number(x, end) => {
-            numbers[0] = x;
-            let after = from_bit(end);
-            UnitRead {
-                unit: Unit::Next(after, 1),
-                numbers,
-            }
-        }
-        Next::Refused(e) => UnitRead {
-            unit: Unit::Refused(e),
-            numbers,
-        },
-    }
+    numbers[0] = read.number;
+    Ok(UnitRead {
+        next: from_bit(read.end),
+        count: 1,
+        numbers,
+    })
 }
 
 // Takes numbers from a position on into work, from a place on, and at most as many as there is room for: it stops at a fault and refuses nothing.
@@ -65,7 +52,7 @@ pub fn take(
     ensures { Took code_direct body.now left at room from.number work.old work.new result }
 {
     let first = from.number;
-    let Heading::Data(d) = heading_of(body) else {
+    let Ok(d) = heading_of(body) else {
         return taken(at, 0, 0, 0, at);
     };
     let most = lesser(left, room);
@@ -73,12 +60,12 @@ pub fn take(
     let mut i = begun.count;
     let mut to = begun.next.bit;
     while i < most {
-        let Next::Number(x, end) = next_number(body, d, to) else {
+        let Ok(next) = next_number(body, d, to) else {
             return taken(at, i, i, 0, from_bit(to));
         };
-        work[first + i] = x;
+        work[first + i] = next.number;
         i += 1;
-        to = end;
+        to = next.end;
     }
     taken(at, i, i, 0, from_bit(to))
 }
@@ -119,7 +106,7 @@ pub fn done(body: &[u8], at: Position) -> bool
     requires { length body.now ≤ most_bytes }
     ensures { result ≡ code_direct.done body.now at }
 {
-    let Heading::Data(d) = heading_of(body) else {
+    let Ok(d) = heading_of(body) else {
         return false;
     };
     if at.bit.index != d {

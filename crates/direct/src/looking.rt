@@ -2,13 +2,13 @@
 ghost use Rattle.std.specs.Prelude.{◌≡◌, ◌<◌, ◌≤◌, length};
 ghost use Rattle.meaning.specs.Direct.{ending_at, look_direct};
 ghost use Rattle.meaning.specs.Limits.{most_bytes};
-ghost use Rattle.meaning.specs.Says.{found_says};
+ghost use Rattle.meaning.specs.Says.{says};
 ghost use Rattle.direct.specs.Parts.{Fit, Leads, look_fit};
 
-use crate::input::{Heading, head_refusal, heading_of, number_in, sum_at, zeros_before};
+use crate::input::{heading_of, number_in, sum_at, zeros_before};
 use bits::one_in;
 use leaves::lesser;
-use meaning::{BROKEN, Bit, Found, Offset, Place, Selected};
+use meaning::{Bit, Offset, Place, Refusal};
 
 // A stretch, and how many numbers end before it, as the sums say.
 #[derive(Clone, Copy)]
@@ -38,9 +38,9 @@ fn stretch_of(body: &[u8], d: usize, place: Place) -> Stretch
 }
 
 // The number that ends with data byte b.
-fn ending_at(body: &[u8], d: usize, b: Bit) -> Found
+fn ending_at(body: &[u8], d: usize, b: Bit) -> Result<u32, Refusal>
     requires { Fit body.now d × (b.index < d) }
-    ensures { found_says result ≡ ending_at body.now b.index }
+    ensures { says result ≡ ending_at body.now b.index }
 {
     let zeros = zeros_before(body, d, b);
     let index = b.index - zeros;
@@ -48,9 +48,9 @@ fn ending_at(body: &[u8], d: usize, b: Bit) -> Found
 }
 
 // The number at a place, where the parts' ends fit the body.
-fn look_in(body: &[u8], d: usize, place: Place) -> Found
+fn look_in(body: &[u8], d: usize, place: Place) -> Result<u32, Refusal>
     requires { Fit body.now d × (length body.now ≤ most_bytes) }
-    ensures { found_says result ≡ look_fit body.now place.number }
+    ensures { says result ≡ look_fit body.now place.number }
 {
     let stretch = stretch_of(body, d, place);
     let s = stretch.number;
@@ -58,24 +58,21 @@ fn look_in(body: &[u8], d: usize, place: Place) -> Found
     let words = (lesser(512, d - first) + 63) / 64;
     let byte = 4 + 64 * s;
     let found = one_in(body, Offset { byte }, words, place.number - stretch.ended);
-    let Selected::At(bit) = found else {
-        return Found::Refused(BROKEN);
+    let Ok(bit) = found else {
+        return Err(Refusal::Broken);
     };
     let index = first + bit.index;
     if d <= index {
-        return Found::Refused(BROKEN);
+        return Err(Refusal::Broken);
     }
     ending_at(body, d, Bit { index })
 }
 
 // The number at a place.
-pub fn lookup(body: &[u8], place: Place) -> Found
+pub fn lookup(body: &[u8], place: Place) -> Result<u32, Refusal>
     requires { length body.now ≤ most_bytes }
-    ensures { found_says result ≡ look_direct body.now place.number }
+    ensures { says result ≡ look_direct body.now place.number }
 {
-    let head = heading_of(body);
-    let Heading::Data(d) = head else {
-        return Found::Refused(head_refusal(head));
-    };
+    let d = heading_of(body)?;
     look_in(body, d, place)
 }

@@ -13,11 +13,11 @@ returns-in_default c = took-none code_direct _ _ _ _ _ _ (spare-always []) _ c.t
 
 pub take_plain-begun-requires : goal.take_plain-begun-requires
 take_plain-begun-requires c =
-    (heading-fits _ c.heading_of.ensures c.in-Data.is, target-within c.requires (omega (arith, c.lesser-most.ensures)))
+    (heading-fits _ c.heading_of.ensures c.in-Ok.is, target-within c.requires (omega (arith, c.lesser-most.ensures)))
 
 pub loop-i-init : goal.loop-i-init
 loop-i-init c =
-    let fit = heading-fits _ c.heading_of.ensures c.in-Data.is in
+    let fit = heading-fits _ c.heading_of.ensures c.in-Ok.is in
     onward-start fit (omega (arith, c.requires.inside, c.lesser-most.ensures))
     (omega (arith, c.requires.inside, c.lesser-most.ensures, begun-long c.take_plain-begun.ensures))
 
@@ -30,7 +30,7 @@ returns-in_default-next_number c =
     onward-end c.loop-i.invariant c.lesser-most.ensures c.take_plain-begun.ensures c.from_bit.ensures c.taken-in_default-next_number.ensures
 
 pub loop-i-preserved : goal.loop-i-preserved
-loop-i-preserved c = onward-turn c.loop-i.invariant c.loop-i-test.true _ c.next_number.ensures c.in-Number.is
+loop-i-preserved c = onward-turn c.loop-i.invariant c.loop-i-test.true _ c.next_number.ensures c.in-Ok-next_number.is
 
 -- ---- after the loop
 pub shape_of-work : goal.shape_of-work

@@ -10,13 +10,13 @@ returns-then-len-lt4 c = rw (head-short _ c.if-len-lt4.true)
 
 pub overflow_add-data_at : goal.overflow_add-data_at
 unfolding data_at sums_at flag_bytes sum_count
-overflow_add-data_at c = omega (arith, c.data_at.ensures, c.whole-d.ensures.1)
+overflow_add-data_at c = omega (arith, c.data_at.ensures)
 
 pub returns-then-len-data_at : goal.returns-then-len-data_at
 returns-then-len-data_at c =
-    rw (head-cut _ (c.whole-d.ensures.0 ∙ c.word_at.ensures) c.if-len-lt4.false (rw (← c.data_at.ensures) c.if-len-data_at.true))
+    rw (head-cut _ c.word_at-d.ensures c.if-len-lt4.false (rw (← c.data_at.ensures) c.if-len-data_at.true))
 
 pub returns : goal.returns
 returns c =
-    let is = c.whole-d.ensures.0 ∙ c.word_at.ensures in
+    let is = c.word_at-d.ensures in
     rw (head-fits _ is c.if-len-lt4.false (rw (← c.data_at.ensures) c.if-len-data_at.false), is)

@@ -1,5 +1,6 @@
 -- `next_number` meets its contract: its zeros say how many bytes the number has. Assumes nothing.
 use native.Mathlib.Omega.{arith}
+use Rattle.std.proofs.lemmas.Result.{err_from_is_err_and}
 use Rattle.direct.proofs.Fits.{data-few}
 use Rattle.direct.proofs.Nexts.{next-none, next-given, next-refused}
 use Rattle.direct.proofs.input.next_number.Goals as goal
@@ -13,10 +14,12 @@ overflow_add-index c = omega (arith, c.zeros_from-len.ensures, data-few c.requir
 pub returns-then-d-index : goal.returns-then-d-index
 returns-then-d-index c = next-none c.requires _ (omega (arith, c.zeros_from-len.ensures)) c.if-d-index.true
 
-pub returns-in-Number : goal.returns-in-Number
-returns-in-Number c =
-    next-given c.requires _ (omega (arith, c.zeros_from-len.ensures)) c.if-d-index.false _ c.number_in.ensures c.in-Number.is
+pub returns : goal.returns
+returns c =
+    next-given c.requires _ (omega (arith, c.zeros_from-len.ensures)) c.if-d-index.false _ c.number_in.ensures c.in_ok-number.was
 
-pub returns-in-Refused : goal.returns-in-Refused
-returns-in-Refused c =
-    next-refused c.requires _ (omega (arith, c.zeros_from-len.ensures)) c.if-d-index.false _ c.number_in.ensures c.in-Refused.is
+pub returns-in_err-number : goal.returns-in_err-number
+returns-in_err-number c =
+    let p = err_from_is_err_and c.from_residual.result c.from_residual.ensures.1 in
+    rw (p.1, p.2)
+    (next-refused c.requires _ (omega (arith, c.zeros_from-len.ensures)) c.if-d-index.false _ c.number_in.ensures c.in_err-number.was)

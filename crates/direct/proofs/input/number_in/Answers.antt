@@ -21,12 +21,12 @@ unfolding data_at sums_at flag_bytes sum_count
 number_at-x-requires c =
     (c.requires.1, c.if-len-gt4.false, omega (arith, (standing c.requires.0).ends, c.requires.2, c.data_at.ensures))
 
-pub returns-then-byte_length-len : goal.returns-then-byte_length-len
-returns-then-byte_length-len c =
-    in-given c.requires.0 _ _ c.if-len-gt4.false (c.number_at-x.ensures ∙ rw c.data_at.ensures)
-    (sym c.byte_length.ensures ∙ c.if-byte_length-len.true)
-
 pub returns : goal.returns
 returns c =
+    in-given c.requires.0 _ _ c.if-len-gt4.false (c.number_at-x.ensures ∙ rw c.data_at.ensures)
+    (sym c.byte_length.ensures ∙ c.if-byte_length-len.false)
+
+pub returns-then-byte_length-len : goal.returns-then-byte_length-len
+returns-then-byte_length-len c =
     in-refused c.requires.0 _ _ c.if-len-gt4.false (c.number_at-x.ensures ∙ rw c.data_at.ensures)
-    (λ e. c.if-byte_length-len.false (c.byte_length.ensures ∙ e))
+    (λ e. c.if-byte_length-len.true (c.byte_length.ensures ∙ e))

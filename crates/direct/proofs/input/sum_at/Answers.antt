@@ -22,4 +22,4 @@ number_at-requires c = (omega arith, omega arith, omega (arith, (standing c.requ
 
 pub returns : goal.returns
 unfolding sum_at
-returns c = c.whole.ensures.0 ∙ c.number_at.ensures ∙ rw (c.sums_at.ensures, c.requires.0.is)
+returns c = c.number_at.ensures ∙ rw (c.sums_at.ensures, c.requires.0.is)

@@ -27,16 +27,16 @@ returns-in_default c = look_none c.requires.0 c.stretch_of-stretch.ensures c.les
 
 pub overflow_add-index : goal.overflow_add-index
 overflow_add-index c =
-    let few = found-few c.requires.0 c.stretch_of-stretch.ensures c.lesser.ensures _ c.one_in-found.ensures c.in-At.is in
+    let few = found-few c.requires.0 c.stretch_of-stretch.ensures c.lesser.ensures _ c.one_in-found.ensures c.in-Ok.is in
     omega (arith, few, c.lesser.ensures, stretch-within c.requires.0 c.stretch_of-stretch.ensures, (standing c.requires.0).ends, c.requires.1)
 
 pub returns-then-d-index : goal.returns-then-d-index
 returns-then-d-index c =
-    look-behind c.requires.0 c.stretch_of-stretch.ensures c.lesser.ensures _ c.one_in-found.ensures c.in-At.is
+    look-behind c.requires.0 c.stretch_of-stretch.ensures c.lesser.ensures _ c.one_in-found.ensures c.in-Ok.is
     c.if-d-index.true
 
 pub returns : goal.returns
 returns c =
     c.ending_at.ensures
-    ∙ look-here c.requires.0 c.stretch_of-stretch.ensures c.lesser.ensures _ c.one_in-found.ensures c.in-At.is
+    ∙ look-here c.requires.0 c.stretch_of-stretch.ensures c.lesser.ensures _ c.one_in-found.ensures c.in-Ok.is
     c.if-d-index.false

@@ -1,13 +1,13 @@
 -- A sum is put where a number's bytes reach the end of a stretch. Assumes nothing.
 use native.Mathlib.Omega.{arith}
 use Rattle.direct.proofs.Sums.{sum-start, sum-long, sum_near, sum-few, short-number, sum_more, sum-full, sum-end}
-use Rattle.direct.proofs.output.put_sums.Goals.{then-count-gt0, else-count-gt0}
+use Rattle.direct.proofs.output.put_sums.Goals.{then-count-ge512, else-count-ge512, then-count-gt0, else-count-gt0}
 use Rattle.direct.proofs.output.put_sums.Goals as goal
 
 pub loop-i-init : goal.loop-i-init
 loop-i-init c =
     let a = c.args in
-    sum-start a.list.now a.from.number a.n a.at.byte a.out.now c.requires.0 c.requires.1
+    sum-start a.list.now a.at.byte a.out.now c.requires
 
 pub overflow_add-count : goal.overflow_add-count
 overflow_add-count c =
@@ -24,18 +24,18 @@ overflow_add-to c =
     let inv = c.loop-i.invariant in
     omega (arith, inv.short, sum_near inv)
 
-pub loop-i-preserved-then-count-ge512 : goal.loop-i-preserved-then-count-ge512
-loop-i-preserved-then-count-ge512 c =
-    let inv = c.loop-i.invariant in
-    sum-full inv c.loop-i-test.true c.byte_length-count.ensures c.if-count-ge512.true
-    (λ goes_on. elim c.if-count-gt0.branch [ then-count-gt0 w ↦ omega arith | else-count-gt0 w ↦ omega arith ])
-    (λ ends. elim c.if-count-gt0.branch [ then-count-gt0 w ↦ omega arith | else-count-gt0 w ↦ omega arith ])
-    c.put_number.ensures
-
 pub loop-i-preserved : goal.loop-i-preserved
 loop-i-preserved c =
     let inv = c.loop-i.invariant in
-    sum_more inv c.loop-i-test.true c.byte_length-count.ensures c.if-count-ge512.false
+    elim c.if-count-ge512.branch [
+      | then-count-ge512 w ↦
+          rw (w.out-is, w.to-is, w.count-is)
+          (sum-full inv c.loop-i-test.true c.byte_length-count.ensures w.if-count-ge512.true
+          (λ goes_on. elim w.if-count-gt0.branch [ then-count-gt0 v ↦ omega arith | else-count-gt0 v ↦ omega arith ])
+          (λ ends. elim w.if-count-gt0.branch [ then-count-gt0 v ↦ omega arith | else-count-gt0 v ↦ omega arith ])
+          w.put_number.ensures)
+      | else-count-ge512 w ↦ rw (w.out-is, w.to-is, w.count-is) (sum_more inv c.loop-i-test.true c.byte_length-count.ensures w.if-count-ge512.false)
+    ]
 
 pub shape_of-out : goal.shape_of-out
 shape_of-out c = sum-long c.loop-i.invariant

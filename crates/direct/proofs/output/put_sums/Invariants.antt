@@ -1,10 +1,6 @@
 -- A sum is put where a number's bytes reach the end of a stretch. Assumes nothing.
-use Prim.Native.Nat.{◌-◌}
 use Rattle.direct.proofs.Sums.{SumSo}
 use Rattle.direct.proofs.output.put_sums.Given as goal
 
 abbrev pub invariant-loop-i : goal.invariant-loop-i
-invariant-loop-i l = SumSo l.list l.first l.n l.initial.to l.initial.out l.out l.to l.count l.i
-
-abbrev pub decreases-loop-i : goal.decreases-loop-i
-decreases-loop-i l = l.n - l.i
+invariant-loop-i l = SumSo l.list l.initial.to l.initial.out l.out l.to l.count l.i

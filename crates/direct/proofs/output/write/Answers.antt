@@ -1,6 +1,5 @@
 -- The number of data bytes, and then the bits, the sums and the data. Assumes nothing.
 use native.Mathlib.Omega.{arith}
-use Rattle.meaning.specs.Places.{part}
 use Rattle.direct.proofs.Writing.{data-few, sums-near, data-near, parts-past, parts-written}
 use Rattle.direct.proofs.output.write.Goals as goal
 
@@ -17,7 +16,7 @@ overflow_add-end c =
 pub returns-then-out-start : goal.returns-then-out-start
 returns-then-out-start c =
     let a = c.args in
-    rw c.data_at.ensures (parts-past (part a.list.now a.from.number a.n) c.data_length-d.ensures c.if-out-start.true)
+    rw c.data_at.ensures (parts-past a.list.now c.data_length-d.ensures c.if-out-start.true)
 
 pub sums_at-requires : goal.sums_at-requires
 sums_at-requires c = omega (arith, data-few c.requires c.data_length-d.ensures, c.requires.short)
@@ -26,13 +25,13 @@ pub overflow_add-sums : goal.overflow_add-sums
 overflow_add-sums c = omega (arith, c.sums_at.ensures, sums-near c.requires c.data_length-d.ensures)
 
 pub put_sums-requires : goal.put_sums-requires
-put_sums-requires c = (c.requires.inside, omega (arith, c.sums_at.ensures, sums-near c.requires c.data_length-d.ensures))
+put_sums-requires c = omega (arith, c.sums_at.ensures, sums-near c.requires c.data_length-d.ensures)
 
 pub put_data-requires : goal.put_data-requires
-put_data-requires c = (c.requires.inside, omega (arith, c.data_at.ensures, data-near c.requires c.data_length-d.ensures))
+put_data-requires c = omega (arith, c.data_at.ensures, data-near c.requires c.data_length-d.ensures)
 
 pub returns : goal.returns
 returns c =
     let a = c.args in
-    parts-written (part a.list.now a.from.number a.n) c.data_length-d.ensures c.put_number.ensures c.put_flags.ensures
+    parts-written a.list.now c.data_length-d.ensures c.put_number.ensures c.put_flags.ensures
     (rw c.sums_at.ensures at c.put_sums.ensures) (rw c.data_at.ensures at c.put_data.ensures)
