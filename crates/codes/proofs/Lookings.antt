@@ -4,6 +4,7 @@ use mathlib.Core.Path.{◌≡◌, refl, sym, ap, ap₂, ◌∙◌, subst}
 use mathlib.Core.List.{List, [], ◌∷◌}
 use native.Mathlib.Nat.{zero-add, add-zero}
 use native.Mathlib.Omega.{arith}
+use Rattle.std.specs.Prelude.{Result, Ok, Err, Some, None}
 use lib.ListN.{length, get_or, take, set, length-take}
 use lib.Seq.{sets, length-sets, get_or-take}
 use Rattle.meaning.specs.Answer.{Answer, given, refused}
@@ -11,7 +12,9 @@ use Rattle.meaning.specs.Codes.{Code, by_units, code_of, look_code}
 use Rattle.meaning.specs.Limits.{most_bytes}
 use Rattle.meaning.specs.Places.{Below}
 use Rattle.meaning.specs.Units.{look_units}
+use Rattle.meaning.specs.Says.{refusal_number, says}
 use Rattle.meaning.specs.declared.Position.{Position}
+use Rattle.meaning.specs.declared.Refusal.{Refusal}
 use Rattle.meaning.specs.declared.Taken.{Taken}
 use Rattle.meaning.proofs.Loops.{Walked, walk_start, walk-refuse}
 use Rattle.meaning.proofs.Stores.{get_d_sets, take-sets}
@@ -19,13 +22,9 @@ use Rattle.meaning.proofs.Stretches.{walk-stretch, stretch-here, stretch-few}
 use Rattle.meaning.proofs.Tests.{by_order}
 use Rattle.stages.proofs.Parts.{stored-get}
 use Rattle.codes.specs.Firsts.{Firsts}
-use Rattle.codes.specs.Goes.{Passed, Goes, went_refusal}
-use Rattle.codes.specs.Started.{started_says, start_refusal}
+use Rattle.codes.specs.Goes.{Passed, Goes}
+use Rattle.codes.specs.Started.{says, start_refusal}
 use Rattle.codes.specs.declared.First.{First}
-use Rattle.codes.specs.declared.Started.{Started}
-use Rattle.codes.specs.declared.Started.TheVariants.{At, Refused as NoStart}
-use Rattle.codes.specs.declared.Went.{Went}
-use Rattle.codes.specs.declared.Went.TheVariants as went
 use Rattle.codes.proofs.Numbered.{laws}
 use Rattle.codes.proofs.Stretches.{goes-refused}
 
@@ -39,16 +38,14 @@ pub record Looking (code : ℕ) (body : List ℕ) (n i : ℕ) (p : Position) : T
   pub so : Walked ((code_of code).unit body) n first i p
 
 -- where the first unit begins
-module _ (code : ℕ) (body : List ℕ) (n : ℕ) (way : (code_of code).way ≡ by_units) {s : Started} (is : started_says s ≡ (code_of code).start body n) where
-  pub looking-start : Below 256 body → length body ≤ most_bytes → {p : Position} → s ≡ At p → Looking code body n 0 p
+module _ (code : ℕ) (body : List ℕ) (n : ℕ) (way : (code_of code).way ≡ by_units) {s : Result Position Refusal} (is : says s ≡ (code_of code).start body n) where
+  pub looking-start : Below 256 body → length body ≤ most_bytes → {p : Position} → s ≡ Ok p → Looking code body n 0 p
   looking-start b h {p} e =
-      record { way = way; bytes = b; short = h; first = p; start = sym is ∙ ap started_says e; so = walk_start ((code_of code).unit body) n p }
+      record { way = way; bytes = b; short = h; first = p; start = sym is ∙ ap says e; so = walk_start ((code_of code).unit body) n p }
 
-  pub start-refuses : {e : ℕ} → s ≡ NoStart e → (place : ℕ) → look_code (code_of code) body n place ≡ refused (start_refusal s)
+  pub start-refuses : {e : Refusal} → s ≡ Err e → (place : ℕ) → look_code (code_of code) body n place ≡ refused (refusal_number e)
   unfolding look_code
-  start-refuses q place =
-      let w : (code_of code).start body n ≡ refused (start_refusal s) = sym is ∙ ap started_says q ∙ ap (λ (u : Started). refused (start_refusal u)) (sym q) in
-      rw (way, w)
+  start-refuses {e} q place = let w : (code_of code).start body n ≡ refused (refusal_number e) = sym is ∙ ap says q in rw (way, w)
 
 module _ {code : ℕ} {body : List ℕ} {n i : ℕ} {p : Position} (l : Looking code body n i p) where
   look_is : (place : ℕ) → look_code (code_of code) body n place ≡ look_units ((code_of code).unit body) n place l.first
@@ -56,8 +53,8 @@ module _ {code : ℕ} {body : List ℕ} {n i : ℕ} {p : Position} (l : Looking 
   look_is place = rw (l.way, l.start)
 
   -- the next unit is refused, and so is every place from here on
-  pub refuses : {room from : ℕ} {w w' : List ℕ} {r : Went} → Goes (code_of code) body (n - i) p room from w w' r → {e : ℕ} → r ≡ went.Refused e
-      → (place : ℕ) → i ≤ place → place < n → look_code (code_of code) body n place ≡ refused (went_refusal r)
+  pub refuses : {room from : ℕ} {w w' : List ℕ} {r : Result Taken Refusal} → Goes (code_of code) body (n - i) p room from w w' r → {e : Refusal}
+      → r ≡ Err e → (place : ℕ) → i ≤ place → place < n → look_code (code_of code) body n place ≡ refused (refusal_number e)
   refuses g q place h b =
       look_is place ∙ walk-refuse ((code_of code).unit body) n l.first ((laws code).good body l.bytes) i p l.so _ (goes-refused g q).0 place h b
 
@@ -142,10 +139,10 @@ module _ {at : ℕ → Answer ℕ} {to : ℕ} {w₀ w : List ℕ} {i : ℕ} (so 
       (λ j b. f j (omega arith) ∙ ap (λ (x : ℕ). given x) (sym (get_or-take (k - i) went.numbers j 0 (omega arith))))
 
   -- what the walk answers
-  pub firsts-stop : {k e : ℕ} → i < k → at i ≡ refused e → Firsts at k to w₀ w (record { count = i; refusal = e })
-  firsts-stop h q = record { most = omega arith; are = so.are; stops = λ b. q; all = λ b. absurd (omega arith); kept = so.kept }
+  pub firsts-stop : {k : ℕ} {e : Refusal} → i < k → at i ≡ refused (refusal_number e) → Firsts at k to w₀ w (record { count = i; stop = Some e })
+  firsts-stop {e = e} h q = record { most = omega arith; are = so.are; stops = λ b. (e, refl, q); all = λ b. absurd (omega arith); kept = so.kept }
 
-  pub firsts-all : {k : ℕ} → i ≡ k → Firsts at k to w₀ w (record { count = k; refusal = 0 })
+  pub firsts-all : {k : ℕ} → i ≡ k → Firsts at k to w₀ w (record { count = k; stop = None })
   firsts-all h = record { most = omega arith; are = λ j b. so.are j (omega arith); stops = λ b. absurd (omega arith); all = λ b. refl; kept = so.kept }
 
 -- the same by an equal way to look up

@@ -6,6 +6,7 @@ use mathlib.Core.List.{List, []}
 use native.Mathlib.Nat.{add-zero}
 use native.Mathlib.Omega.{arith}
 use borrow.Author.Tests.{lt-ltb, le-ltb}
+use Rattle.std.specs.Prelude.{Result, Ok, Err, Some, None}
 use lib.ListN.{length, get_or, take, drop}
 use lib.Seq.{sets, take_all, get_or-take, get_or-drop}
 use Rattle.meaning.specs.Answer.{Answer, given, refused, bind, amount}
@@ -14,19 +15,16 @@ use Rattle.meaning.specs.DataBytes.{byte_length}
 use Rattle.meaning.specs.Limits.{broken}
 use Rattle.meaning.specs.Places.{Below, Spare, Target, Got}
 use Rattle.meaning.specs.Units.{read_units}
+use Rattle.meaning.specs.Says.{refusal_number, says}
 use Rattle.meaning.specs.declared.Position.{Position}
-use Rattle.meaning.specs.declared.Reading.TheVariants.{Whole, Refused}
+use Rattle.meaning.specs.declared.Refusal.{Refusal}
+use Rattle.meaning.specs.declared.Refusal.TheVariants.{Broken}
 use Rattle.meaning.specs.declared.Taken.{Taken}
 use Rattle.meaning.proofs.Answers.{not-given}
 use Rattle.meaning.proofs.Loops.{ReadSo, read-start, read-refuse, read-unjoined, read-end, got-refused, got-whole}
 use Rattle.meaning.proofs.Stores.{part-sets, take-sets}
 use Rattle.meaning.proofs.Stretches.{read-stretch, stretch-first, stretch-few}
-use Rattle.codes.specs.Goes.{Passed, Goes, went_refusal}
-use Rattle.codes.specs.Started.{started_says, start_refusal}
-use Rattle.codes.specs.declared.Started.{Started}
-use Rattle.codes.specs.declared.Started.TheVariants.{At, Refused as NoStart}
-use Rattle.codes.specs.declared.Went.{Went}
-use Rattle.codes.specs.declared.Went.TheVariants as went
+use Rattle.codes.specs.Goes.{Passed, Goes}
 use Rattle.codes.proofs.Numbered.{laws}
 use Rattle.codes.proofs.Stretches.{goes-refused}
 
@@ -41,26 +39,26 @@ pub record Reading (code : ℕ) (body : List ℕ) (n : ℕ) (w₀ : List ℕ) (f
   pub so : ReadSo ((code_of code).unit body) (code_of code).joins ((code_of code).done body) n first w₀ from w i before p
   pub leaves : Spare (code_of code).joins before spare
 
-module _ (code : ℕ) (body : List ℕ) (n : ℕ) {s : Started} (is : started_says s ≡ (code_of code).start body n) {from : ℕ} {w : List ℕ} where
-  pub reading-start : Below 256 body → Target body w from n → from + n < 2 ^ 63 → {p : Position} → s ≡ At p → Reading code body n w from w 0 p 0
+module _ (code : ℕ) (body : List ℕ) (n : ℕ) {s : Result Position Refusal} (is : says s ≡ (code_of code).start body n) {from : ℕ} {w : List ℕ} where
+  pub reading-start : Below 256 body → Target body w from n → from + n < 2 ^ 63 → {p : Position} → s ≡ Ok p → Reading code body n w from w 0 p 0
   reading-start b t low {p} e =
       record {
         bytes = b;
         target = t;
         low = low;
         first = p;
-        start = sym is ∙ ap started_says e;
+        start = sym is ∙ ap says e;
         before = [];
         so = read-start ((code_of code).unit body) (code_of code).joins ((code_of code).done body) n p w from;
         leaves = (laws code).fresh;
       }
 
-  pub got-no-start : {e : ℕ} → s ≡ NoStart e → Got (read_code (code_of code) body n) from w w (Refused (start_refusal s))
+  pub got-no-start : {e : Refusal} → s ≡ Err e → Got (read_code (code_of code) body n) from w w (Err e)
   unfolding read_code
-  got-no-start q =
-      let z : read_code (code_of code) body n ≡ refused (start_refusal s) =
+  got-no-start {e} q =
+      let z : read_code (code_of code) body n ≡ refused (refusal_number e) =
       ap (λ (a : Answer Position). bind a (read_units ((code_of code).unit body) (code_of code).joins ((code_of code).done body) n []))
-      (sym is ∙ ap started_says q ∙ ap (λ (u : Started). refused (start_refusal u)) (sym q)) in
+      (sym is ∙ ap says q) in
       record { told = ap amount (sym z); here = λ xs g. absurd (not-given _ xs (sym z ∙ g)); kept = refl }
 
 module _ {code : ℕ} {body : List ℕ} {n : ℕ} {w₀ : List ℕ} {from : ℕ} {w : List ℕ} {i : ℕ} {p : Position} {spare : ℕ}
@@ -69,22 +67,23 @@ module _ {code : ℕ} {body : List ℕ} {n : ℕ} {w₀ : List ℕ} {from : ℕ}
   unfolding read_code
   read_is = rw r.start
 
-  pub got_fault : (z : ℕ) → read_units ((code_of code).unit body) (code_of code).joins ((code_of code).done body) n [] r.first ≡ refused z
-      → Got (read_code (code_of code) body n) from w₀ w (Refused z)
+  pub got_fault : (z : Refusal)
+      → read_units ((code_of code).unit body) (code_of code).joins ((code_of code).done body) n [] r.first ≡ refused (refusal_number z)
+      → Got (read_code (code_of code) body n) from w₀ w (Err z)
   got_fault z e =
       got-refused ((code_of code).unit body) (code_of code).joins ((code_of code).done body) n r.first w₀ from ((laws code).good body r.bytes) w i
       r.before p r.so
       (read_code (code_of code) body n) read_is z (read_is ∙ e)
 
   -- the next unit is refused
-  pub got-unit-refused : i < n → {room at : ℕ} {w' : List ℕ} {g : Went} → Goes (code_of code) body (n - i) p room at w w' g → {e : ℕ} → g ≡ went.Refused e
-      → Got (read_code (code_of code) body n) from w₀ w' (Refused (went_refusal g))
-  got-unit-refused h {w' = w'} {g = g} goes q =
+  pub got-unit-refused : i < n → {room at : ℕ} {w' : List ℕ} {g : Result Taken Refusal} → Goes (code_of code) body (n - i) p room at w w' g
+      → {e : Refusal} → g ≡ Err e → Got (read_code (code_of code) body n) from w₀ w' (Err e)
+  got-unit-refused h goes {e} q =
       let (z, same) = goes-refused goes q in
       rw same
-      (got_fault (went_refusal g)
+      (got_fault e
       (read-refuse ((code_of code).unit body) (code_of code).joins ((code_of code).done body) n r.first w₀ from ((laws code).good body r.bytes) w i
-      r.before p r.so (went_refusal g) h z))
+      r.before p r.so (refusal_number e) h z))
 
   module _ (h : i < n) {w' : List ℕ} {t : Taken} (went : Passed (code_of code) body (n - i) p (n - i) (from + i) w w' t) where
     all-few : length went.numbers ≤ n - i
@@ -130,7 +129,7 @@ module _ {code : ℕ} {body : List ℕ} {n : ℕ} {w₀ : List ℕ} {from : ℕ}
         }
 
     -- it may not
-    pub got-unjoined : byte_length (get_or w' (from + i) 0) ≤ spare → Got (read_code (code_of code) body n) from w₀ w' (Refused broken)
+    pub got-unjoined : byte_length (get_or w' (from + i) 0) ≤ spare → Got (read_code (code_of code) body n) from w₀ w' (Err Broken)
     got-unjoined b =
         let some : 0 < length went.numbers = omega (arith, went.counted, went.some) in
         let (u, eu, e) = stretch-first ((code_of code).unit body) (code_of code).joins (n - i) p ((laws code).good body r.bytes) went.are some in
@@ -147,14 +146,14 @@ module _ {code : ℕ} {body : List ℕ} {n : ℕ} {w₀ : List ℕ} {from : ℕ}
 
   -- all is read
   module _ (h : n ≤ i) where
-    pub got-all : (code_of code).done body p ≡ true → Got (read_code (code_of code) body n) from w₀ w (Whole n)
+    pub got-all : (code_of code).done body p ≡ true → Got (read_code (code_of code) body n) from w₀ w (Ok n)
     got-all d =
         got-whole ((code_of code).unit body) (code_of code).joins ((code_of code).done body) n r.first w₀ from ((laws code).good body r.bytes) w i
         r.before p r.so
         (read_code (code_of code) body n) read_is h d
 
-    pub got-left-over : (code_of code).done body p ≡ false → Got (read_code (code_of code) body n) from w₀ w (Refused broken)
+    pub got-left-over : (code_of code).done body p ≡ false → Got (read_code (code_of code) body n) from w₀ w (Err Broken)
     got-left-over d =
-        got_fault broken
+        got_fault Broken
         (read-end ((code_of code).unit body) (code_of code).joins ((code_of code).done body) n r.first w₀ from ((laws code).good body r.bytes) w i
         r.before p r.so h ∙ rw d)

@@ -4,19 +4,20 @@ use mathlib.Core.Path.{◌≡◌, ap, ◌∙◌}
 use mathlib.Core.List.{List}
 use native.Mathlib.Nat.{sub-zero}
 use native.Mathlib.Omega.{arith}
+use Rattle.std.specs.Prelude.{Result, Ok, Err, Some, None}
 use lib.ListN.{length}
 use Rattle.meaning.specs.Answer.{given, refused}
 use Rattle.meaning.specs.Codes.{code_of, look_code}
 use Rattle.meaning.specs.Limits.{broken}
 use Rattle.meaning.specs.Stages.{seek}
 use Rattle.meaning.specs.declared.Place.{Place}
+use Rattle.meaning.specs.Says.{refusal_number, says}
 use Rattle.meaning.specs.declared.Position.{Position}
+use Rattle.meaning.specs.declared.Refusal.{Refusal}
 use Rattle.meaning.specs.declared.Taken.{Taken}
-use Rattle.codes.specs.Goes.{Passed, Goes, went_refusal}
+use Rattle.codes.specs.Goes.{Passed, Goes}
 use Rattle.stages.specs.Seeks.{sought_from, Seeks}
 use Rattle.stages.specs.declared.Sought.{Sought}
-use Rattle.codes.specs.declared.Went.{Went}
-use Rattle.codes.specs.declared.Went.TheVariants as went
 use Rattle.stages.proofs.Seeks.{seek-none, seek-stops}
 use Rattle.codes.proofs.Lookings.{Looking, refuses, passes, looking-on, front}
 use Rattle.stages.specs.declared.Sought.TheVariants as sought
@@ -33,9 +34,9 @@ on-start {runs = runs} l = record { looking = l; most = omega arith; near = omeg
 
 module _ {code : ℕ} {body : List ℕ} {runs n place passed : ℕ} {p : Position} {done : ℕ} (o : SeekingOn code body runs n place passed p done) where
   -- the next length is refused
-  pub on-refused : passed < runs → {room from : ℕ} {w w' : List ℕ} {r : Went} → Goes (code_of code) body (runs - passed) p room from w w' r → {e : ℕ}
-      → r ≡ went.Refused e
-      → seek (look_code (code_of code) body runs) n place runs 0 0 ≡ refused (went_refusal r)
+  pub on-refused : passed < runs → {room from : ℕ} {w w' : List ℕ} {r : Result Taken Refusal}
+      → Goes (code_of code) body (runs - passed) p room from w w' r → {e : Refusal} → r ≡ Err e
+      → seek (look_code (code_of code) body runs) n place runs 0 0 ≡ refused (refusal_number e)
   on-refused h g q = o.so ∙ seek-stops (look_code (code_of code) body runs) n place (runs - passed) passed done (omega arith) _
       (refuses o.looking g q passed (omega arith) h)
 

@@ -1,7 +1,9 @@
 -- The numbers at the first places of a list that is looked up: up to k of them, or up to the first place that refuses.
-use Rattle.std.specs.Prelude.{ℕ, zero, suc, ◌+◌, ◌≤◌, ◌<◌, ◌≡◌, List, length, get_or, take}
+use Rattle.std.specs.Prelude.{ℕ, zero, suc, ◌+◌, ◌≤◌, ◌<◌, ◌≡◌, List, length, get_or, take, Some, None}
 use Rattle.meaning.specs.Answer.{Answer, given, refused, bind}
 use Rattle.meaning.specs.Limits.{most_bytes, most_numbers}
+use Rattle.meaning.specs.Says.{refusal_number}
+use Rattle.meaning.specs.declared.Refusal.{Refusal}
 use Rattle.codes.specs.declared.First.{First}
 
 -- the sum of the numbers at the first k places
@@ -26,6 +28,6 @@ pub record Space (body : List ℕ) (n k : ℕ) (work : List ℕ) (from : ℕ) : 
 pub record Firsts (at : ℕ → Answer ℕ) (k from : ℕ) (work work' : List ℕ) (r : First) : Type 0 where
   pub most : r.count ≤ k
   pub are : (i : ℕ) → i < r.count → at i ≡ given (get_or work' (from + i) 0)
-  pub stops : r.count < k → at r.count ≡ refused r.refusal
-  pub all : r.count ≡ k → r.refusal ≡ 0
+  pub stops : r.count < k → (e : Refusal) × (r.stop ≡ Some e) × (at r.count ≡ refused (refusal_number e))
+  pub all : r.count ≡ k → r.stop ≡ None
   pub kept : take from work' ≡ take from work

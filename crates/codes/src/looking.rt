@@ -2,54 +2,39 @@
 // into a small array, or straight into work.
 ghost use Rattle.std.specs.Prelude.{◌≡◌, ◌+◌, ◌<◌, ◌≤◌};
 ghost use Rattle.meaning.specs.Codes.{code_of, look_code};
-ghost use Rattle.meaning.specs.Says.{found_says};
+ghost use Rattle.meaning.specs.Says.{says, says_by};
 ghost use Rattle.meaning.specs.Stages.{seek};
-ghost use Rattle.codes.specs.Started.{total_says, run_says};
+ghost use Rattle.codes.specs.Started.{run_told};
 ghost use Rattle.codes.specs.Firsts.{total, Looked, Space, Firsts};
 
+use crate::First;
 use crate::directly::{firsts_direct, seek_direct, total_direct};
 use crate::dispatch::{is_direct, start_at, unit_most};
-use crate::stretch::{start_refusal, stretch, went_refusal};
-use crate::{First, Run, Started, Total, Went};
-use leaves::lesser;
-use meaning::{BROKEN, Found, Place};
+use crate::stretch::stretch;
+use meaning::{Place, Refusal};
 use stages::{Sought, seek_in, total_of};
 
 // The number at a place of n.
-pub fn lookup_code(code: u8, body: &[u8], n: usize, place: Place) -> Found
+pub fn lookup_code(code: u8, body: &[u8], n: usize, place: Place) -> Result<u32, Refusal>
     requires { Looked body.now n place.number }
-    ensures { found_says result ≡ look_code (code_of code) body.now n place.number }
+    ensures { says result ≡ look_code (code_of code) body.now n place.number }
 {
     if is_direct(code) {
         return direct::lookup(body, place);
     }
     let goal = place.number;
-    let started = start_at(code, body, n);
-    let Started::At(first) = started else {
-        return Found::Refused(start_refusal(started));
-    };
+    let mut at = start_at(code, body, n)?;
     let most = unit_most(code);
     let mut numbers = [0u32; 128];
-    let mut at = first;
+    let start = Place { number: 0 };
     let mut passed: usize = 0;
     loop {
         let here = goal - passed;
-        let room = lesser(128, here + most);
-        let went = stretch(
-            code,
-            body,
-            n - passed,
-            at,
-            &mut numbers,
-            Place { number: 0 },
-            room,
-        );
-        let Went::On(taken) = went else {
-            return Found::Refused(went_refusal(went));
-        };
+        let room = 128usize.min(here + most);
+        let taken = stretch(code, body, n - passed, at, &mut numbers, start, room)?;
         if here < taken.count {
             let number = numbers[here];
-            return Found::Number(number);
+            return Ok(number);
         }
         passed += taken.count;
         at = taken.next;
@@ -57,36 +42,29 @@ pub fn lookup_code(code: u8, body: &[u8], n: usize, place: Place) -> Found
 }
 
 // The sum of the numbers through a place of n.
-pub fn total_code(code: u8, body: &[u8], n: usize, place: Place) -> Total
+pub fn total_code(code: u8, body: &[u8], n: usize, place: Place) -> Result<u64, Refusal>
     requires { Looked body.now n place.number }
-    ensures { total_says result ≡ total (look_code (code_of code) body.now n) (place.number + 1) }
+    ensures { says result ≡ total (look_code (code_of code) body.now n) (place.number + 1) }
 {
     if is_direct(code) {
         return total_direct(body, n, place);
     }
     let goal = place.number;
-    let started = start_at(code, body, n);
-    let Started::At(first) = started else {
-        return Total::Refused(start_refusal(started));
-    };
+    let mut at = start_at(code, body, n)?;
     let most = unit_most(code);
     let mut numbers = [0u32; 192];
     let start = Place { number: 0 };
-    let mut at = first;
     let mut passed: usize = 0;
     let mut s: u64 = 0;
     loop {
         let here = goal - passed;
-        let room = lesser(192, here + most);
-        let went = stretch(code, body, n - passed, at, &mut numbers, start, room);
-        let Went::On(taken) = went else {
-            return Total::Refused(went_refusal(went));
-        };
+        let room = 192usize.min(here + most);
+        let taken = stretch(code, body, n - passed, at, &mut numbers, start, room)?;
         if here < taken.count {
-            let through = s + total_of(&numbers, start, here + 1);
-            return Total::Sum(through);
+            let through = s + total_of(&numbers[..here + 1]);
+            return Ok(through);
         }
-        s += total_of(&numbers, start, taken.count);
+        s += total_of(&numbers[..taken.count]);
         passed += taken.count;
         at = taken.next;
     }
@@ -111,17 +89,18 @@ pub fn firsts_code(
     if k == 0 {
         return First {
             count: 0,
-            refusal: 0,
+            stop: None,
         };
     }
-    let started = start_at(code, body, n);
-    let Started::At(first) = started else {
-        return First {
-            count: 0,
-            refusal: start_refusal(started),
-        };
+    let mut at = match start_at(code, body, n) {
+        Ok(first) => first,
+        Err(e) => {
+            return First {
+                count: 0,
+                stop: Some(e),
+            };
+        }
     };
-    let mut at = first;
     let mut passed: usize = 0;
     while passed < k {
         let place = to + passed;
@@ -135,63 +114,57 @@ pub fn firsts_code(
             Place { number: place },
             room,
         );
-        let Went::On(taken) = went else {
-            return First {
-                count: passed,
-                refusal: went_refusal(went),
-            };
-        };
-        passed += lesser(room, taken.count);
-        at = taken.next;
+        match went {
+            Ok(taken) => {
+                passed += room.min(taken.count);
+                at = taken.next;
+            }
+            Err(e) => {
+                return First {
+                    count: passed,
+                    stop: Some(e),
+                };
+            }
+        }
     }
     First {
         count: k,
-        refusal: 0,
+        stop: None,
     }
 }
 
 // The run that holds a place of n, by the lengths of so many runs.
-pub fn seek_code(code: u8, body: &[u8], runs: usize, n: usize, place: Place) -> Run
+pub fn seek_code(code: u8, body: &[u8], runs: usize, n: usize, place: Place) -> Result<Place, Refusal>
     requires { (Looked body.now n place.number) × (runs ≤ n) }
-    ensures { run_says result ≡ seek (look_code (code_of code) body.now runs) n place.number runs 0 0 }
+    ensures { says_by run_told result ≡ seek (look_code (code_of code) body.now runs) n place.number runs 0 0 }
 {
     if is_direct(code) {
         return seek_direct(body, runs, n, place);
     }
     if runs == 0 {
-        return Run::Refused(BROKEN);
+        return Err(Refusal::Broken);
     }
     let goal = place.number;
-    let started = start_at(code, body, runs);
-    let Started::At(first) = started else {
-        return Run::Refused(start_refusal(started));
-    };
+    let mut at = start_at(code, body, runs)?;
     let mut lengths = [0u32; 32];
     let start = Place { number: 0 };
-    let mut at = first;
     let mut passed: usize = 0;
     let mut done = start;
     while passed < runs {
         // Each run holds a number at least, so no more lengths are needed than places are left; a unit's are.
-        let room = lesser(32, goal - done.number + 16);
-        let went = stretch(code, body, runs - passed, at, &mut lengths, start, room);
-        let Went::On(taken) = went else {
-            return Run::Refused(went_refusal(went));
-        };
-        match seek_in(&lengths, taken.count, n, place, done) {
+        let room = 32usize.min(goal - done.number + 16);
+        let taken = stretch(code, body, runs - passed, at, &mut lengths, start, room)?;
+        match seek_in(&lengths[..taken.count], n, place, done)? {
             Sought::At(j) => {
                 let run = passed + j.number;
-                return Run::At(Place { number: run });
+                return Ok(Place { number: run });
             }
             Sought::After(end) => {
                 passed += taken.count;
                 at = taken.next;
                 done = end;
             }
-            Sought::Refused(e) => {
-                return Run::Refused(e);
-            }
         }
     }
-    Run::Refused(BROKEN)
+    Err(Refusal::Broken)
 }
