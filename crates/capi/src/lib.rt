@@ -11,10 +11,9 @@ ghost use Rattle.capi.specs.Told.{Tells, TellsList, Blames, Tallies, Fetches};
 
 use bits::{rank, select};
 use judge::{judge, worst_size};
-use leaves::wide;
-use meaning::{Bit, Checked, Counted, Found, Judged, Place, Ranked, Reading, Selected, Sized};
+use meaning::{Bit, Place};
 use sheet::{board, check, lookup, read};
-use table::{Column, column_at};
+use table::column_at;
 use writer::write;
 
 // Nothing was refused.
@@ -25,10 +24,9 @@ const ACCEPTED: u32 = 0;
 pub extern "C" fn pelluvion_judge(kind: u8, plan: &[u8]) -> u32
     ensures { result ≡ number (judge_of kind plan.now) }
 {
-    let judged = judge(kind, plan);
-    match judged {
-        Judged::Passed => ACCEPTED,
-        Judged::Refused(e) => wide(e),
+    match judge(kind, plan) {
+        Ok(()) => ACCEPTED,
+        Err(e) => u32::from(e),
     }
 }
 
@@ -37,15 +35,14 @@ pub extern "C" fn pelluvion_judge(kind: u8, plan: &[u8]) -> u32
 pub extern "C" fn pelluvion_worst(plan: &[u8], n: usize, size: &mut usize) -> u32
     ensures { Tells (worst_size plan.now n) result size.new }
 {
-    let sized = worst_size(plan, n);
-    match sized {
-        Sized::Bytes(most) => {
+    match worst_size(plan, n) {
+        Ok(most) => {
             *size = most;
             ACCEPTED
         }
-        Sized::Refused(e) => {
+        Err(e) => {
             *size = 0;
-            wide(e)
+            u32::from(e)
         }
     }
 }
@@ -65,15 +62,14 @@ pub extern "C" fn pelluvion_write(
     ensures { TellsList (write_apart edition kinds.now plans.now counts.now joined.now
         (length work.old) (length out.old)) result size.new out.old out.new }
 {
-    let written = write(edition, kinds, plans, counts, joined, work, out);
-    match written {
-        Sized::Bytes(bytes) => {
+    match write(edition, kinds, plans, counts, joined, work, out) {
+        Ok(bytes) => {
             *size = bytes;
             ACCEPTED
         }
-        Sized::Refused(e) => {
+        Err(e) => {
             *size = 0;
-            wide(e)
+            u32::from(e)
         }
     }
 }
@@ -83,15 +79,14 @@ pub extern "C" fn pelluvion_write(
 pub extern "C" fn pelluvion_check(sheet: &[u8], work: &mut [u32], column: &mut usize) -> u32
     ensures { Blames (check_of sheet.now (length work.old)) result column.new }
 {
-    let checked = check(sheet, work);
-    match checked {
-        Checked::Passed => {
+    match check(sheet, work) {
+        Ok(()) => {
             *column = 0;
             ACCEPTED
         }
-        Checked::Refused(e, fault) => {
-            *column = fault;
-            wide(e)
+        Err(f) => {
+            *column = f.column;
+            u32::from(f.refusal)
         }
     }
 }
@@ -108,15 +103,14 @@ pub extern "C" fn pelluvion_read(
     ensures { TellsList (read_sheet sheet.now column (length work.old) (length out.old)) result count.new
         out.old out.new }
 {
-    let got = read(sheet, column, work, out);
-    match got {
-        Reading::Whole(n) => {
+    match read(sheet, column, work, out) {
+        Ok(n) => {
             *count = n;
             ACCEPTED
         }
-        Reading::Refused(e) => {
+        Err(e) => {
             *count = 0;
-            wide(e)
+            u32::from(e)
         }
     }
 }
@@ -131,15 +125,14 @@ pub extern "C" fn pelluvion_lookup(
 ) -> u32
     ensures { Tells (look_sheet sheet.now column place) result number.new }
 {
-    let found = lookup(sheet, column, Place { number: place });
-    match found {
-        Found::Number(x) => {
+    match lookup(sheet, column, Place { number: place }) {
+        Ok(x) => {
             *number = x;
             ACCEPTED
         }
-        Found::Refused(e) => {
+        Err(e) => {
             *number = 0;
-            wide(e)
+            u32::from(e)
         }
     }
 }
@@ -154,18 +147,17 @@ pub extern "C" fn pelluvion_fetch(
 ) -> u32
     ensures { Fetches sheet.now column result offset.new length.new }
 {
-    let found = column_at(sheet, column);
-    match found {
-        Column::At(entry) => {
+    match column_at(sheet, column) {
+        Ok(entry) => {
             let body = entry.body;
             *offset = body.byte;
             *length = entry.size;
             ACCEPTED
         }
-        Column::Refused(e) => {
+        Err(e) => {
             *offset = 0;
             *length = 0;
-            wide(e)
+            u32::from(e)
         }
     }
 }
@@ -184,9 +176,8 @@ pub extern "C" fn pelluvion_board(
     ensures { Tallies (count_board sheet.now (length work.old)) result column.new
         (record { passed = passed.new; failed = failed.new; killed = killed.new; unended = unended.new }) }
 {
-    let counted = board(sheet, work);
-    match counted {
-        Counted::Tallies(tally) => {
+    match board(sheet, work) {
+        Ok(tally) => {
             *column = 0;
             *passed = tally.passed;
             *failed = tally.failed;
@@ -194,13 +185,13 @@ pub extern "C" fn pelluvion_board(
             *unended = tally.unended;
             ACCEPTED
         }
-        Counted::Refused(e, k) => {
-            *column = k;
+        Err(f) => {
+            *column = f.column;
             *passed = 0;
             *failed = 0;
             *killed = 0;
             *unended = 0;
-            wide(e)
+            u32::from(f.refusal)
         }
     }
 }
@@ -210,15 +201,14 @@ pub extern "C" fn pelluvion_board(
 pub extern "C" fn pelluvion_rank(bytes: &[u8], bit: usize, ones: &mut usize) -> u32
     ensures { Tells (rank_of bytes.now bit) result ones.new }
 {
-    let ranked = rank(bytes, Bit { index: bit });
-    match ranked {
-        Ranked::Ones(n) => {
+    match rank(bytes, Bit { index: bit }) {
+        Ok(n) => {
             *ones = n;
             ACCEPTED
         }
-        Ranked::Refused(e) => {
+        Err(e) => {
             *ones = 0;
-            wide(e)
+            u32::from(e)
         }
     }
 }
@@ -228,15 +218,14 @@ pub extern "C" fn pelluvion_rank(bytes: &[u8], bit: usize, ones: &mut usize) -> 
 pub extern "C" fn pelluvion_select(bytes: &[u8], k: usize, bit: &mut usize) -> u32
     ensures { Tells (select_of bytes.now k) result bit.new }
 {
-    let selected = select(bytes, k);
-    match selected {
-        Selected::At(found) => {
+    match select(bytes, k) {
+        Ok(found) => {
             *bit = found.index;
             ACCEPTED
         }
-        Selected::Refused(e) => {
+        Err(e) => {
             *bit = 0;
-            wide(e)
+            u32::from(e)
         }
     }
 }

@@ -2,7 +2,7 @@
 // numbers read.
 #![tactic(auto)]
 
-use meaning::{Found, Judged, Place, Reading, Sized};
+use meaning::Place;
 use std::io;
 
 fn number(rt: &impl Print, x: u64) -> io::Result<()> {
@@ -18,8 +18,8 @@ fn judged(rt: &impl Print, name: &str, kind: u8, plan: &[u8]) -> io::Result<()> 
     rt.print(name)?;
     let answer = judge::judge(kind, plan);
     match answer {
-        Judged::Passed => number(rt, 0)?,
-        Judged::Refused(e) => number(rt, e as u64)?,
+        Ok(()) => number(rt, 0)?,
+        Err(e) => number(rt, u64::from(u32::from(e)))?,
     }
     end(rt)
 }
@@ -29,11 +29,11 @@ fn worst(rt: &impl Print, name: &str, plan: &[u8], n: usize) -> io::Result<()> {
     rt.print(name)?;
     let answer = judge::worst_size(plan, n);
     match answer {
-        Sized::Bytes(size) => {
+        Ok(size) => {
             number(rt, 0)?;
             number(rt, size as u64)?;
         }
-        Sized::Refused(e) => number(rt, e as u64)?,
+        Err(e) => number(rt, u64::from(u32::from(e)))?,
     }
     end(rt)
 }
@@ -46,11 +46,11 @@ fn read(rt: &impl Print, name: &str, plan: &[u8], body: &[u8], n: usize) -> io::
             let mut work = [0u32; 7168];
             let answer = plan_read::read_list(plan, body, n, &mut work);
             match answer {
-                Reading::Whole(count) => {
+                Ok(count) => {
                     number(rt, 0)?;
                     number(rt, count as u64)?;
                 }
-                Reading::Refused(e) => number(rt, e as u64)?,
+                Err(e) => number(rt, u64::from(u32::from(e)))?,
             }
         }
     }
@@ -72,11 +72,11 @@ fn looked(
             if place < n {
                 let answer = codes::lookup_code(code, body, n, Place { number: place });
                 match answer {
-                    Found::Number(x) => {
+                    Ok(x) => {
                         number(rt, 0)?;
                         number(rt, x as u64)?;
                     }
-                    Found::Refused(e) => number(rt, e as u64)?,
+                    Err(e) => number(rt, u64::from(u32::from(e)))?,
                 }
             }
         }
@@ -99,11 +99,11 @@ fn looked_by(
             if place < n {
                 let answer = plan_look::lookup_list(plan, body, n, Place { number: place });
                 match answer {
-                    Found::Number(x) => {
+                    Ok(x) => {
                         number(rt, 0)?;
                         number(rt, x as u64)?;
                     }
-                    Found::Refused(e) => number(rt, e as u64)?,
+                    Err(e) => number(rt, u64::from(u32::from(e)))?,
                 }
             }
         }

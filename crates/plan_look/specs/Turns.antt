@@ -1,8 +1,10 @@
 -- What a stage makes of the lookups below it, as the meaning's `look` says it.
-use Rattle.std.specs.Prelude.{ℕ, ◌+◌, ◌*◌, min, cond, List, ltb}
+use Rattle.std.specs.Prelude.{ℕ, ◌+◌, ◌*◌, min, cond, List, ltb, Option, Some, None}
 use Rattle.meaning.specs.Answer.{Answer, given, refused, bind}
-use Rattle.meaning.specs.Limits.{broken}
+use Rattle.meaning.specs.Says.{refusal_number}
 use Rattle.meaning.specs.Stages.{within, seek}
+use Rattle.meaning.specs.declared.Refusal.{Refusal}
+use Rattle.meaning.specs.declared.Refusal.TheVariants.{Broken}
 use Rattle.codes.specs.Firsts.{Firsts}
 use Rattle.codes.specs.declared.First.{First}
 use Rattle.stages.specs.Runs.{run_fits}
@@ -18,24 +20,27 @@ abbrev pub runs_at : ℕ → ℕ → (ℕ → Answer ℕ) → (ℕ → Answer �
 runs_at n runs lengths values i = bind (seek lengths n i runs 0 0) values
 
 -- so many numbers of k, and then a refusal where there are fewer
-unfoldable pub ended_by : ℕ → ℕ → ℕ → First
-ended_by k count refusal = cond (ltb count k) (record { count = count; refusal = refusal }) (record { count = k; refusal = 0 })
+unfoldable pub ended_by : ℕ → ℕ → Refusal → First
+ended_by k count e = cond (ltb count k) (record { count = count; stop = Some e }) (record { count = k; stop = None })
 
 -- what was got, up to a number that is too large
 unfoldable pub stop_at : First → ℕ → First
-stop_at got count = cond (ltb count got.count) (record { count = count; refusal = broken }) got
+stop_at got count = cond (ltb count got.count) (record { count = count; stop = Some Broken }) got
+
+-- why nothing follows what was got: where all was there, more is asked than there can be
+abbrev pub stop_of : Option Refusal → Refusal
+stop_of (Some e) = e
+stop_of None = Broken
 
 -- why no run follows those that are laid, where l would be its length
-unfoldable pub next_refusal : ℕ → ℕ → First → First → Laid → ℕ → ℕ
-next_refusal n runs values lengths laid l =
-    cond (ltb laid.runs lengths.count) (cond (run_fits n laid.numbers l) values.refusal broken)
-    (cond (ltb laid.runs runs) lengths.refusal broken)
+unfoldable pub next_refusal : ℕ → First → First → Laid → ℕ → Refusal
+next_refusal n values lengths laid l =
+    cond (ltb laid.runs lengths.count) (cond (run_fits n laid.numbers l) (stop_of values.stop) Broken) (stop_of lengths.stop)
 
--- the run that is sought in the lengths of the first runs, where there are so many in all
-abbrev pub run_of : ℕ → First → Sought → Answer ℕ
-run_of runs got (sought.At j) = given j.number
-run_of runs got (sought.After s) = refused (cond (ltb got.count runs) got.refusal broken)
-run_of runs got (sought.Refused e) = refused e
+-- the run that is sought in the lengths of the first runs
+abbrev pub run_of : First → Sought → Answer ℕ
+run_of got (sought.At j) = given j.number
+run_of got (sought.After s) = refused (refusal_number (stop_of got.stop))
 
 -- the values and the lengths of the first runs stood in work, n and 2n places after the place from which their numbers stand now
 abbrev pub RunsTurned : ℕ → ℕ → ℕ → ℕ → List ℕ → First → First → List ℕ → First → Type 0

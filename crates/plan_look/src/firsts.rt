@@ -8,21 +8,23 @@ ghost use Rattle.plan_look.specs.Turns.{ended_by, stop_at, next_refusal, RunsTur
 
 use codes::{First, firsts_code};
 use judge::stage::{Stage, plan_end, stage_at};
-use leaves::lesser;
-use meaning::{BROKEN, CUT_SHORT, Offset, Place};
-use stages::{Header, Laid, header_of, raise_firsts, run_fits, spread, sum_firsts};
+use meaning::{Offset, Place, Refusal};
+use stages::{Laid, header_of, raise_firsts, run_fits, spread, sum_firsts};
 use words::word_at;
 
 // So many numbers of k, and then a refusal where there are fewer.
-fn ended(count: usize, k: usize, refusal: u8) -> First
+fn ended(count: usize, k: usize, refusal: Refusal) -> First
     ensures { result ≡ ended_by k count refusal }
 {
     if count < k {
-        return First { count, refusal };
+        return First {
+            count,
+            stop: Some(refusal),
+        };
     }
     First {
         count: k,
-        refusal: 0,
+        stop: None,
     }
 }
 
@@ -33,7 +35,7 @@ fn stop_at(got: First, count: usize) -> First
     if count < got.count {
         return First {
             count,
-            refusal: BROKEN,
+            stop: Some(Refusal::Broken),
         };
     }
     got
@@ -44,26 +46,21 @@ fn next_refusal(
     work: &[u32],
     from: Place,
     n: usize,
-    runs: usize,
     values: First,
     lengths: First,
     laid: Laid,
-) -> u8
+) -> Refusal
     requires { (from.number + lengths.count ≤ length work.now) × (laid.numbers ≤ n) }
-    ensures { result ≡ next_refusal n runs values lengths laid (get_or work.now (from.number + laid.runs) 0) }
+    ensures { result ≡ next_refusal n values lengths laid (get_or work.now (from.number + laid.runs) 0) }
 {
-    let first = from.number;
     let j = laid.runs;
-    if j < lengths.count {
-        if run_fits(n, laid.numbers, work[first + j]) {
-            return values.refusal;
-        }
-        return BROKEN;
+    if lengths.count <= j {
+        return lengths.stop.unwrap_or(Refusal::Broken);
     }
-    if j < runs {
-        return lengths.refusal;
+    if run_fits(n, laid.numbers, work[from.number + j]) {
+        return values.stop.unwrap_or(Refusal::Broken);
     }
-    BROKEN
+    Refusal::Broken
 }
 
 // The first k numbers of n that runs make; the values of the first runs stand n places after them, their lengths 2n.
@@ -80,12 +77,12 @@ fn spread_runs(
     ensures { RunsTurned from.number n k runs work.old values lengths work.new result }
 {
     let first = from.number;
-    let both = lesser(values.count, lengths.count);
+    let both = values.count.min(lengths.count);
     let laid = spread(work, from, n, k, both);
     let third = Place {
         number: first + 2 * n,
     };
-    let refusal = next_refusal(work, third, n, runs, values, lengths, laid);
+    let refusal = next_refusal(work, third, n, values, lengths, laid);
     ended(laid.numbers, k, refusal)
 }
 
@@ -106,11 +103,11 @@ pub fn firsts_plan(
         work.new result }
 {
     match stage_at(plan, pos, stages) {
-        Stage::Bad => ended(0, k, BROKEN),
+        Stage::Bad => ended(0, k, Refusal::Broken),
         Stage::Code(code) => firsts_code(code, body, n, k, work, from),
         Stage::Reference(next, less) => {
             if body.len() < 4 {
-                return ended(0, k, CUT_SHORT);
+                return ended(0, k, Refusal::CutShort);
             }
             let m = word_at(body, Offset { byte: 0 });
             let got = firsts_plan(plan, next, less, &body[4..], n, k, work, from);
@@ -142,20 +139,19 @@ fn firsts_runs(
     ensures { Firsts (look (runs_at stages plan.now pos.byte) body.now n) k from.number work.old
         work.new result }
 {
-    match header_of(body, n) {
-        Header::Refused(e) => ended(0, k, e),
-        Header::Runs(runs, end) => {
-            let split = end.byte;
-            let first = from.number;
-            let second = Place { number: first + n };
-            let third = Place {
-                number: first + 2 * n,
-            };
-            let few = lesser(runs, k);
-            let after = plan_end(plan, pos, stages);
-            let values = firsts_plan(plan, pos, stages, &body[8..split], runs, few, work, second);
-            let lengths = firsts_plan(plan, after, stages, &body[split..], runs, few, work, third);
-            spread_runs(work, from, n, k, runs, values, lengths)
-        }
-    }
+    let header = match header_of(body, n) {
+        Ok(header) => header,
+        Err(e) => return ended(0, k, e),
+    };
+    let split = header.end.byte;
+    let first = from.number;
+    let second = Place { number: first + n };
+    let third = Place {
+        number: first + 2 * n,
+    };
+    let few = header.runs.min(k);
+    let after = plan_end(plan, pos, stages);
+    let values = firsts_plan(plan, pos, stages, &body[8..split], header.runs, few, work, second);
+    let lengths = firsts_plan(plan, after, stages, &body[split..], header.runs, few, work, third);
+    spread_runs(work, from, n, k, header.runs, values, lengths)
 }

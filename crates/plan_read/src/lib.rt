@@ -10,8 +10,8 @@ ghost use Rattle.stages.specs.Room.{Fits};
 
 use codes::read_code;
 use judge::stage::{Stage, plan_end, stage_at};
-use meaning::{BROKEN, CUT_SHORT, Offset, Place, Reading};
-use stages::{Header, header_of, raise, sum_up, unroll_into};
+use meaning::{Offset, Place, Refusal};
+use stages::{header_of, raise, sum_up, unroll_into};
 use words::word_at;
 
 // Reads n numbers by the plan that begins at an offset of the plan's bytes.
@@ -24,28 +24,26 @@ pub fn read_plan(
     n: usize,
     work: &mut [u32],
     from: Place,
-) -> Reading
+) -> Result<usize, Refusal>
     requires { Fits body.now work.old stages n from.number }
     ensures { Got (read (plan_at stages plan.now pos.byte) body.now n) from.number work.old
         work.new result }
 {
     match stage_at(plan, pos, stages) {
-        Stage::Bad => Reading::Refused(BROKEN),
+        Stage::Bad => Err(Refusal::Broken),
         Stage::Code(code) => read_code(code, body, n, work, from),
         Stage::Reference(next, less) => {
             if body.len() < 4 {
-                return Reading::Refused(CUT_SHORT);
+                return Err(Refusal::CutShort);
             }
             let m = word_at(body, Offset { byte: 0 });
-            match read_plan(plan, next, less, &body[4..], n, work, from) {
-                Reading::Refused(e) => Reading::Refused(e),
-                Reading::Whole(_) => raise(work, from, n, m),
-            }
+            read_plan(plan, next, less, &body[4..], n, work, from)?;
+            raise(work, from, n, m)
         }
-        Stage::Differences(next, less) => match read_plan(plan, next, less, body, n, work, from) {
-            Reading::Refused(e) => Reading::Refused(e),
-            Reading::Whole(_) => sum_up(work, from, n),
-        },
+        Stage::Differences(next, less) => {
+            read_plan(plan, next, less, body, n, work, from)?;
+            sum_up(work, from, n)
+        }
         Stage::Runs(next, less) => read_runs(plan, next, less, body, n, work, from),
     }
 }
@@ -60,36 +58,27 @@ fn read_runs(
     n: usize,
     work: &mut [u32],
     from: Place,
-) -> Reading
+) -> Result<usize, Refusal>
     requires { Fits body.now work.old (suc stages) n from.number }
     ensures { Got (read (runs_at stages plan.now pos.byte) body.now n) from.number work.old
         work.new result }
 {
-    match header_of(body, n) {
-        Header::Refused(e) => Reading::Refused(e),
-        Header::Runs(k, end) => {
-            let split = end.byte;
-            let first = from.number;
-            let values = Place { number: first + n };
-            let lengths = Place {
-                number: first + 2 * n,
-            };
-            let second = plan_end(plan, pos, stages);
-            match read_plan(plan, pos, stages, &body[8..split], k, work, values) {
-                Reading::Refused(e) => Reading::Refused(e),
-                Reading::Whole(_) => {
-                    match read_plan(plan, second, stages, &body[split..], k, work, lengths) {
-                        Reading::Refused(e) => Reading::Refused(e),
-                        Reading::Whole(_) => unroll_into(work, from, n, k),
-                    }
-                }
-            }
-        }
-    }
+    let header = header_of(body, n)?;
+    let k = header.runs;
+    let split = header.end.byte;
+    let first = from.number;
+    let values = Place { number: first + n };
+    let lengths = Place {
+        number: first + 2 * n,
+    };
+    let second = plan_end(plan, pos, stages);
+    read_plan(plan, pos, stages, &body[8..split], k, work, values)?;
+    read_plan(plan, second, stages, &body[split..], k, work, lengths)?;
+    unroll_into(work, from, n, k)
 }
 
 // Reads n numbers by a plan into work from its first place on; 7n numbers of work are enough.
-pub fn read_list(plan: &[u8], body: &[u8], n: usize, work: &mut [u32]) -> Reading
+pub fn read_list(plan: &[u8], body: &[u8], n: usize, work: &mut [u32]) -> Result<usize, Refusal>
     requires { (length body.now ≤ most_bytes) × (n ≤ most_numbers) × (7 * n ≤ length work.old) }
     ensures { Got (read (plan_of plan.now) body.now n) 0 work.old work.new result }
 {

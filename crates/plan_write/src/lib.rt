@@ -10,7 +10,6 @@ ghost use Rattle.plan_write.specs.Written.{Fit, FitRuns, Written};
 
 use codes::write_code;
 use judge::stage::{Stage, plan_end, stage_at};
-use leaves::word_of;
 use meaning::{Offset, Place};
 use stages::{gaps_into, least_of, less_into, runs_into};
 use words::put_word;
@@ -33,11 +32,14 @@ pub fn write_plan(
 {
     match stage_at(plan, pos, stages) {
         Stage::Bad => at,
-        Stage::Code(code) => write_code(code, work, from, n, out, at),
+        Stage::Code(code) => {
+            let first = from.number;
+            write_code(code, &work[first..first + n], out, at)
+        }
         Stage::Reference(next, less) => {
             let first = from.number;
             let start = at.byte;
-            let m = least_of(work, from, n);
+            let m = least_of(&work[first..first + n]);
             put_word(out, at, m);
             less_into(work, from, n, m);
             write_plan(
@@ -89,7 +91,7 @@ fn write_runs(
     let start = at.byte;
     let second = plan_end(plan, pos, stages);
     let k = runs_into(work, from, n);
-    put_word(out, at, word_of(k));
+    put_word(out, at, k as u32);
     let end = write_plan(
         plan,
         pos,
@@ -103,7 +105,7 @@ fn write_runs(
         Offset { byte: start + 8 },
     );
     let stop = end.byte;
-    put_word(out, Offset { byte: start + 4 }, word_of(stop - (start + 8)));
+    put_word(out, Offset { byte: start + 4 }, (stop - (start + 8)) as u32);
     write_plan(
         plan,
         second,

@@ -1,12 +1,12 @@
 // The board of a sheet that passed the check: column 0 holds job numbers, column 1 endings.
-ghost use Rattle.std.specs.Prelude.{◌≡◌, ◌≤◌, length, take};
+ghost use Rattle.std.specs.Prelude.{◌≡◌, length};
 ghost use Rattle.meaning.specs.Answer.{passed};
 ghost use Rattle.meaning.specs.Operations.{check as check_of};
 ghost use Rattle.meaning.specs.Says.{counted_says};
 ghost use Rattle.sheet.specs.Board.{Known, ReadAgain, jobs_hold, Countable, with_ending, endings_told};
 
 use crate::columns::read_column;
-use meaning::{BAD_BOARD, Counted, Place, RISING, Reading, Tally};
+use meaning::{Fault, RISING, Refusal, Tally};
 use stages::differs_in;
 use table::entries::{column_count, count_at, kind_at};
 use table::entry_at;
@@ -23,11 +23,7 @@ pub fn read_again(sheet: &[u8], column: usize, work: &mut [u32]) -> usize
     ensures { ReadAgain sheet.now column work.new result }
 {
     let entry = entry_at(sheet, column);
-    let got = read_column(sheet, entry, work);
-    match got {
-        Reading::Whole(n) => n,
-        Reading::Refused(_) => 0,
-    }
+    read_column(sheet, entry, work).unwrap_or(0)
 }
 
 // Whether columns 0 and 1 exist with equal counts, and column 0 is kind 1 with no equal neighbours.
@@ -49,7 +45,7 @@ pub fn jobs_hold(sheet: &[u8], work: &mut [u32]) -> bool
         return false;
     }
     let n = read_again(sheet, 0, work);
-    differs_in(work, Place { number: 0 }, n)
+    differs_in(&work[..n])
 }
 
 // One ending more: 0 is passed, 124 killed, 256 never ended, any other failed.
@@ -69,10 +65,9 @@ fn with_ending(mut tally: Tally, ending: u32) -> Tally
     tally
 }
 
-// The tallies of the first n numbers of work, where each is an ending.
-pub fn tally_in(work: &[u32], n: usize) -> Counted
-    requires { n ≤ length work.now }
-    ensures { counted_says result ≡ endings_told (take n work.now) }
+// The tallies of endings, where each is one.
+pub fn tally_in(endings: &[u32]) -> Result<Tally, Fault>
+    ensures { counted_says result ≡ endings_told endings.now }
 {
     let mut tally = Tally {
         passed: 0,
@@ -80,14 +75,11 @@ pub fn tally_in(work: &[u32], n: usize) -> Counted
         killed: 0,
         unended: 0,
     };
-    let mut i = 0;
-    while i < n {
-        let ending = work[i];
+    for &ending in endings {
         if NEVER_ENDED < ending {
-            return Counted::Refused(BAD_BOARD, 0);
+            return Err(Fault::from(Refusal::BadBoard));
         }
         tally = with_ending(tally, ending);
-        i += 1;
     }
-    Counted::Tallies(tally)
+    Ok(tally)
 }

@@ -3,14 +3,14 @@ ghost use Rattle.meaning.specs.Places.{Got};
 ghost use Rattle.meaning.specs.Sheet.{read_column};
 ghost use Rattle.sheet.specs.Opened.{column_of, Readable};
 
-use meaning::{BROKEN, PLAN_BYTES, Place, Reading};
+use meaning::{PLAN_BYTES, Refusal};
 use plan_read::read_list;
 use stages::of_kind;
 use table::Entry;
 use table::entries::edition_of;
 
 // Reads a column into work from its first place on: all of its plan is applied, and its list must be of the declared kind, by the sheet's edition.
-pub fn read_column(sheet: &[u8], entry: Entry, work: &mut [u32]) -> Reading
+pub fn read_column(sheet: &[u8], entry: Entry, work: &mut [u32]) -> Result<usize, Refusal>
     requires { Readable sheet.now work.old entry }
     ensures { Got (read_column (column_of sheet.now entry)) 0 work.old work.new result }
 {
@@ -20,16 +20,9 @@ pub fn read_column(sheet: &[u8], entry: Entry, work: &mut [u32]) -> Reading
     let body = entry.body;
     let start = body.byte;
     let end = start + entry.size;
-    let got = read_list(&sheet[from..to], &sheet[start..end], entry.count, work);
-    match got {
-        Reading::Refused(e) => Reading::Refused(e),
-        Reading::Whole(n) => {
-            let edition = edition_of(sheet);
-            let kept = of_kind(edition, entry.kind, work, Place { number: 0 }, n);
-            if kept {
-                return Reading::Whole(n);
-            }
-            Reading::Refused(BROKEN)
-        }
+    let n = read_list(&sheet[from..to], &sheet[start..end], entry.count, work)?;
+    if of_kind(edition_of(sheet), entry.kind, &work[..n]) {
+        return Ok(n);
     }
+    Err(Refusal::Broken)
 }

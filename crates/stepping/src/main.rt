@@ -1,18 +1,18 @@
 // Writes sheets from lists of orders and steps through their columns, call by call.
 #![tactic(auto)]
 
-use meaning::{Found, Sized};
+use meaning::Refusal;
 use orders::Order;
 use std::io;
 
-fn refused(rt: &impl Print, e: u8) -> io::Result<()> {
+fn refused(rt: &impl Print, e: Refusal) -> io::Result<()> {
     println!(rt; "refused {e}")
 }
 
-fn found(rt: &impl Print, f: Found) -> io::Result<()> {
+fn found(rt: &impl Print, f: Result<u32, Refusal>) -> io::Result<()> {
     match f {
-        Found::Number(x) => println!(rt; "{x}"),
-        Found::Refused(e) => refused(rt, e),
+        Ok(x) => println!(rt; "{x}"),
+        Err(e) => refused(rt, e),
     }
 }
 
@@ -79,11 +79,11 @@ fn write_and_step(
     };
     let answer = orders::write_two(edition, jobs, endings, joined, &mut work, out);
     match answer {
-        Sized::Refused(e) => {
+        Err(e) => {
             refused(rt, e)?;
             bytes(rt, out)?;
         }
-        Sized::Bytes(n) => {
+        Ok(n) => {
             if n <= out.len() {
                 show(rt, &out[..n])?;
             }

@@ -4,6 +4,7 @@
 ghost use Rattle.std.specs.Prelude.{◌≡◌, [], ◌<◌, ◌^◌, length};
 ghost use Rattle.meaning.specs.Answer.{blamed};
 ghost use Rattle.meaning.specs.Limits.{most_numbers};
+ghost use Rattle.meaning.specs.Says.{refusal_number};
 ghost use Rattle.meaning.specs.Sheet.{columns_of};
 ghost use Rattle.meaning.specs.Texts.{all_work, refused_or, counting, column_lines, listing_lines, listing_text, board_lines, board_text};
 ghost use Rattle.texts.specs.Listing.{Passing};
@@ -11,21 +12,21 @@ ghost use Rattle.texts.specs.Written.{Puts, Written};
 
 use crate::columns::put_column;
 use crate::pieces::{put_end, put_line, put_next, put_number, put_small, put_word};
-use meaning::{Checked, Counted, Offset, Tally};
+use meaning::{Fault, Offset, Tally};
 use table::entries::column_count;
 
 mod columns;
 mod pieces;
 
 // A refusal's line.
-fn put_refused(e: u8, column: usize, out: &mut [u8], at: Offset) -> Offset
+fn put_refused(f: Fault, out: &mut [u8], at: Offset) -> Offset
     requires { at.byte < 2 ^ 61 }
-    ensures { Puts (refused_or (blamed e column) []) 64 at.byte out.old out.new result }
+    ensures { Puts (refused_or (blamed (refusal_number f.refusal) f.column) []) 64 at.byte out.old out.new result }
 {
     let first = put_word(b"refused", out, at);
-    let second = put_small(e, out, first);
+    let second = put_small(u8::from(f.refusal), out, first);
     let third = put_next(b"column", out, second);
-    let fourth = put_number(column, out, third);
+    let fourth = put_number(f.column, out, third);
     put_end(out, fourth)
 }
 
@@ -79,17 +80,11 @@ pub fn listing(sheet: &[u8], work: &mut [u32], list: &mut [u32], out: &mut [u8])
     ensures { Written (listing_text sheet.now) 270000 out.old out.new result }
 {
     let start = Offset { byte: 0 };
-    let checked = sheet::check(sheet, work);
-    match checked {
-        Checked::Passed => {
-            let end = put_sheet(sheet, work, list, out, start);
-            end.byte
-        }
-        Checked::Refused(e, column) => {
-            let end = put_refused(e, column, out, start);
-            end.byte
-        }
-    }
+    let end = match sheet::check(sheet, work) {
+        Ok(()) => put_sheet(sheet, work, list, out, start),
+        Err(f) => put_refused(f, out, start),
+    };
+    end.byte
 }
 
 // The board's text.
@@ -98,15 +93,9 @@ pub fn board(sheet: &[u8], work: &mut [u32], out: &mut [u8]) -> usize
     ensures { Written (board_text sheet.now) 128 out.old out.new result }
 {
     let start = Offset { byte: 0 };
-    let counted = sheet::board(sheet, work);
-    match counted {
-        Counted::Tallies(t) => {
-            let end = put_tally(t, out, start);
-            end.byte
-        }
-        Counted::Refused(e, column) => {
-            let end = put_refused(e, column, out, start);
-            end.byte
-        }
-    }
+    let end = match sheet::board(sheet, work) {
+        Ok(t) => put_tally(t, out, start),
+        Err(f) => put_refused(f, out, start),
+    };
+    end.byte
 }

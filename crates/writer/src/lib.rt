@@ -6,7 +6,7 @@ ghost use Rattle.meaning.specs.Promises.{WritesApart};
 
 use crate::sheets::put_sheet;
 use crate::slices::{judge_orders, largest_of, lists_rise, orders_hold};
-use meaning::{BAD_ORDERS, FALLS, Judged, MOST_BYTES, NO_ROOM, SHORT_WORK, Sized};
+use meaning::{MOST_BYTES, Refusal};
 use table::rules::is_edition;
 
 mod plans;
@@ -22,38 +22,32 @@ pub fn write(
     joined: &[u32],
     work: &mut [u32],
     out: &mut [u8],
-) -> Sized
+) -> Result<usize, Refusal>
     ensures { WritesApart edition kinds.now plans.now counts.now joined.now work.old
         out.old (result, out.new) }
 {
-    let known = is_edition(edition);
-    if !known {
-        return Sized::Refused(BAD_ORDERS);
+    if !is_edition(edition) {
+        return Err(Refusal::BadOrders);
     }
-    let held = orders_hold(kinds, plans, counts, joined);
-    if !held {
-        return Sized::Refused(BAD_ORDERS);
+    if !orders_hold(kinds, plans, counts, joined) {
+        return Err(Refusal::BadOrders);
     }
-    let judged = judge_orders(kinds, plans);
-    if let Judged::Refused(e) = judged {
-        return Sized::Refused(e);
+    judge_orders(kinds, plans)?;
+    if !lists_rise(edition, kinds, counts, joined) {
+        return Err(Refusal::Falls);
     }
-    let rise = lists_rise(edition, kinds, counts, joined);
-    if !rise {
-        return Sized::Refused(FALLS);
-    }
-    let most = largest_of(counts);
-    if work.len() < 7 * most {
-        return Sized::Refused(SHORT_WORK);
+    if work.len() < 7 * largest_of(counts) {
+        return Err(Refusal::ShortWork);
     }
     let mut spare = [0u8; 1];
     let size = put_sheet(edition, kinds, plans, counts, joined, work, &mut spare);
     if MOST_BYTES < size {
-        return Sized::Refused(NO_ROOM);
+        return Err(Refusal::NoRoom);
     }
     if out.len() < size {
-        return Sized::Refused(NO_ROOM);
+        return Err(Refusal::NoRoom);
     }
-    let end = put_sheet(edition, kinds, plans, counts, joined, work, out);
-    Sized::Bytes(end)
+    Ok(put_sheet(
+        edition, kinds, plans, counts, joined, work, out,
+    ))
 }

@@ -6,8 +6,8 @@ ghost use Rattle.meaning.specs.Sheet.{entry_bytes, sheet_bytes};
 ghost use Rattle.writer.specs.Orders.{columns_by, Ordered, Laid, Room, ColumnPut};
 
 use crate::plans::{put_bytes, used_plan};
-use leaves::{byte_of, put, whole, word_of};
-use meaning::{MOST_BYTES, Offset, PLAN_BYTES, Place};
+use leaves::put;
+use meaning::{MOST_BYTES, Offset, PLAN_BYTES};
 use plan_write::write_list;
 use stages::copy_list;
 use table::entries::{COUNT_IN, PLAN_IN, SIZE_IN, entry_start};
@@ -67,7 +67,7 @@ pub fn put_column(
         return end;
     }
     let size = end.byte - at.byte;
-    put_entry(edition, out, slot, kind, plan, word_of(n), word_of(size));
+    put_entry(edition, out, slot, kind, plan, n as u32, size as u32);
     end
 }
 
@@ -87,16 +87,16 @@ pub fn put_sheet(
 {
     let n = kinds.len();
     put(out, Offset { byte: 0 }, edition);
-    put(out, Offset { byte: 1 }, byte_of(n));
+    put(out, Offset { byte: 1 }, n as u8);
     let mut at = entry_start(edition, n);
     let mut from: usize = 0;
     let mut k: usize = 0;
     while k < n {
         let kind = kinds[k];
-        let many = whole(counts[k]);
+        let many = counts[k] as usize;
         let first = PLAN_BYTES * k;
         let plan = used_plan(kind, plans, Offset { byte: first });
-        copy_list(joined, Place { number: from }, many, work);
+        copy_list(&joined[from..from + many], work);
         let slot = entry_start(edition, k);
         at = put_column(edition, kind, &plan, work, many, out, slot, at);
         if MOST_BYTES < at.byte {

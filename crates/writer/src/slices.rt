@@ -4,13 +4,12 @@ ghost use Rattle.meaning.specs.Answer.{in_turn};
 ghost use Rattle.meaning.specs.Limits.{most_columns, number_limit, plan_bytes};
 ghost use Rattle.meaning.specs.Lists.{all, sum, largest};
 ghost use Rattle.meaning.specs.Operations.{orders_of};
-ghost use Rattle.meaning.specs.Says.{judged_says};
+ghost use Rattle.meaning.specs.Says.{says};
 ghost use Rattle.writer.specs.Orders.{columns_by, order_holds, list_judged, list_rises, verdict_told, slices_hold};
 
 use crate::plans::used_plan;
 use judge::judge_plan;
-use leaves::whole;
-use meaning::{Judged, MOST_COLUMNS, Offset, PLAN_BYTES, Place, RISING};
+use meaning::{MOST_COLUMNS, Offset, PLAN_BYTES, RISING, Refusal};
 use stages::of_kind;
 
 // A list's numbers.
@@ -42,7 +41,7 @@ fn sum_of(counts: &[u32]) -> usize
     let mut s: usize = 0;
     let mut k: usize = 0;
     while k < counts.len() {
-        s += whole(counts[k]);
+        s += counts[k] as usize;
         k += 1;
     }
     s
@@ -76,7 +75,7 @@ pub fn largest_of(counts: &[u32]) -> usize
     let mut most: usize = 0;
     let mut k: usize = 0;
     while k < counts.len() {
-        let count = whole(counts[k]);
+        let count = counts[k] as usize;
         if most < count {
             most = count;
         }
@@ -86,9 +85,9 @@ pub fn largest_of(counts: &[u32]) -> usize
 }
 
 // Each plan that is really used, judged in turn.
-pub fn judge_orders(kinds: &[u8], plans: &[u8]) -> Judged
+pub fn judge_orders(kinds: &[u8], plans: &[u8]) -> Result<(), Refusal>
     requires { length plans.now ≡ plan_bytes * length kinds.now }
-    ensures { (counts numbers : List ℕ) → judged_says result ≡ verdict_told
+    ensures { (counts numbers : List ℕ) → says result ≡ verdict_told
         (in_turn list_judged 0 (columns_by kinds.now plans.now counts numbers)) }
 {
     let mut k: usize = 0;
@@ -96,13 +95,10 @@ pub fn judge_orders(kinds: &[u8], plans: &[u8]) -> Judged
         let kind = kinds[k];
         let byte = PLAN_BYTES * k;
         let plan = used_plan(kind, plans, Offset { byte });
-        let judged = judge_plan(kind, &plan);
-        if let Judged::Refused(e) = judged {
-            return Judged::Refused(e);
-        }
+        judge_plan(kind, &plan)?;
         k += 1;
     }
-    Judged::Passed
+    Ok(())
 }
 
 // Whether every list is of its kind, by the edition.
@@ -113,9 +109,8 @@ pub fn lists_rise(edition: u8, kinds: &[u8], counts: &[u32], joined: &[u32]) -> 
     let mut from: usize = 0;
     let mut k: usize = 0;
     while k < kinds.len() {
-        let n = whole(counts[k]);
-        let rises = of_kind(edition, kinds[k], joined, Place { number: from }, n);
-        if !rises {
+        let n = counts[k] as usize;
+        if !of_kind(edition, kinds[k], &joined[from..from + n]) {
             return false;
         }
         from += n;
