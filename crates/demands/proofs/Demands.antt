@@ -1,4 +1,7 @@
 -- The three demands, and which sort of fault. Assumes nothing.
+use Rattle.meaning.specs.declared.Refusal.{Refusal}
+use Rattle.meaning.specs.declared.Fault.{Fault}
+use Rattle.std.specs.Prelude.{Result, Ok, Err}
 use Prim.Native.Nat.{ℕ, ◌*◌, ◌<◌}
 use mathlib.Core.Path.{◌≡◌, refl, sym, ap, ◌∙◌, subst}
 use mathlib.Core.List.{List, [], ◌∷◌, ◌++◌}
@@ -12,11 +15,8 @@ use Rattle.meaning.specs.Operations.{column, numbers_at, no_tally}
 use Rattle.meaning.specs.Operations.{write_sheet, write_apart, check, read_sheet, look_sheet, fetch, open_reader, count_board}
 use Rattle.meaning.specs.Plan.{judge, worst_size}
 use Rattle.meaning.specs.Rank.{rank, select}
-use Rattle.meaning.specs.Says.{judged_says, sized_says, reading_says, found_says, checked_says, counted_says, ranked_says, selected_says}
+use Rattle.meaning.specs.Says.{says, verdict_says, counted_says, says_by, bit_told}
 use Rattle.meaning.specs.Sheet.{Column, edition_of, column_at, read_column}
-use Rattle.meaning.specs.declared.Reading.{Reading}
-use Rattle.meaning.specs.declared.Counted.{Counted}
-use Rattle.meaning.specs.declared.Counted.TheVariants as counted
 use Rattle.meaning.proofs.Answers.{Faulty, bind-given, need-given, not-given}
 use Rattle.bits.proofs.Unique.{one_rank, one-select}
 use Rattle.judge.proofs.Unique.{one-judge, one-worst-size, one-sized}
@@ -43,9 +43,9 @@ use Rattle.demands.proofs.Rewritten.{apart-is, same-sheet, same-apart}
 
 -- ---- demand 1
 -- a refused board has no tallies
-bare-board : (r : Counted) → 0 < refusal (counted_says r).0 → (counted_says r).1 ≡ no_tally
-bare-board (counted.Tallies t) h = absurd (omega arith)
-bare-board (counted.Refused e k) h = refl
+bare-board : (r : Result Tally Fault) → 0 < refusal (counted_says r).0 → (counted_says r).1 ≡ no_tally
+bare-board (Ok t) h = absurd (omega arith)
+bare-board (Err e k) h = refl
 
 -- a reader whose call is refused stays where it stands
 stays : (m : Answer ℕ) (place : ℕ) → 0 < number m → next_place m place ≡ place
@@ -57,8 +57,8 @@ stands-still r l =
     ap (λ (p : ℕ). record { sheet = r.sheet; column = r.column; place = record { number = p } }) (stays (answer (standing r)) r.place.number l)
 
 -- one answer of a reading, whatever is in the output
-one-reading : (sheet : List ℕ) (k work : ℕ) (o : List ℕ) (r s : Reading) → reading_says r ≡ amount (read_sheet sheet k work (length o))
-    → reading_says s ≡ amount (read_sheet sheet k work (length o)) → r ≡ s
+one-reading : (sheet : List ℕ) (k work : ℕ) (o : List ℕ) (r s : Result ℕ Refusal) → says r ≡ amount (read_sheet sheet k work (length o))
+    → says s ≡ amount (read_sheet sheet k work (length o)) → r ≡ s
 one-reading sheet k work o r s e f =
     let left = filled (read_sheet sheet k work (length o)) o in
     (one-read sheet k work o left left r s (e, refl) (f, refl)).0
@@ -67,24 +67,24 @@ pub demand-1 : Demand1
 unfolding all
 demand-1 =
     record {
-      judging = λ kind plan. by_answer (3 ∷ 4 ∷ 11 ∷ []) refl judged_says (judge kind plan) (judge-refusals kind plan) (one-judge kind plan);
-      sizing = λ plan n. by_answer (3 ∷ 11 ∷ []) refl sized_says (worst_size plan n) (worst-refusals plan n) (one-worst-size plan n);
+      judging = λ kind plan. by_answer (3 ∷ 4 ∷ 11 ∷ []) refl says (judge kind plan) (judge-refusals kind plan) (one-judge kind plan);
+      sizing = λ plan n. by_answer (3 ∷ 11 ∷ []) refl says (worst_size plan n) (worst-refusals plan n) (one-worst-size plan n);
       writing = λ edition orders joined work o.
           let m = write_sheet edition orders joined (length work) (length o) in
-          by-output (3 ∷ 4 ∷ 7 ∷ 8 ∷ 10 ∷ 11 ∷ []) refl sized_says m o (write-refusals edition orders joined (length work) (length o))
+          by-output (3 ∷ 4 ∷ 7 ∷ 8 ∷ 10 ∷ 11 ∷ []) refl says m o (write-refusals edition orders joined (length work) (length o))
           (λ r s. one-sized r s (amount m));
       writing_apart = λ edition kinds plans counts joined work o.
           let m = write_apart edition kinds plans counts joined (length work) (length o) in
-          by-output (3 ∷ 4 ∷ 7 ∷ 8 ∷ 10 ∷ 11 ∷ []) refl sized_says m o (apart-refusals edition kinds plans counts joined (length work) (length o))
+          by-output (3 ∷ 4 ∷ 7 ∷ 8 ∷ 10 ∷ 11 ∷ []) refl says m o (apart-refusals edition kinds plans counts joined (length work) (length o))
           (λ r s. one-sized r s (amount m));
       checking = λ sheet work.
-          by-verdict (1 ∷ 2 ∷ 3 ∷ 4 ∷ 8 ∷ 9 ∷ 13 ∷ []) refl (Checks sheet work) (λ r. refusal (checked_says r)) (check sheet (length work)) (λ r. Unit {0})
+          by-verdict (1 ∷ 2 ∷ 3 ∷ 4 ∷ 8 ∷ 9 ∷ 13 ∷ []) refl (Checks sheet work) (λ r. refusal (verdict_says r)) (check sheet (length work)) (λ r. Unit {0})
           (check-refusals sheet (length work)) (one-check sheet (length work)) (λ r t. ap refusal t) (λ r t l. tt);
       reading = λ sheet k work o.
-          by-output (1 ∷ 2 ∷ 3 ∷ 4 ∷ 5 ∷ 7 ∷ 8 ∷ 9 ∷ 13 ∷ []) refl reading_says (read_sheet sheet k (length work) (length o)) o
+          by-output (1 ∷ 2 ∷ 3 ∷ 4 ∷ 5 ∷ 7 ∷ 8 ∷ 9 ∷ 13 ∷ []) refl says (read_sheet sheet k (length work) (length o)) o
           (read-refusals sheet k (length work) (length o)) (one-reading sheet k (length work) o);
       looking = λ sheet k place.
-          by_answer (1 ∷ 2 ∷ 3 ∷ 4 ∷ 5 ∷ 6 ∷ 9 ∷ 13 ∷ []) refl found_says (look_sheet sheet k place) (lookup-refusals sheet k place) (one-lookup sheet k place);
+          by_answer (1 ∷ 2 ∷ 3 ∷ 4 ∷ 5 ∷ 6 ∷ 9 ∷ 13 ∷ []) refl says (look_sheet sheet k place) (lookup-refusals sheet k place) (one-lookup sheet k place);
       fetching = λ sheet k.
           by_number (1 ∷ 2 ∷ 3 ∷ 4 ∷ 5 ∷ []) refl (Fetches sheet k) (λ a. a.1) (fetch sheet k) (λ a. a.0 ≡ []) (fetch-refusals sheet k)
           (λ a b s t. both a b (one-fetch sheet k a.0 b.0 a.1 b.1 s t)) (λ a t. t.1) (λ a t l. t.0 ∙ refused-empty (fetch sheet k) l);
@@ -97,11 +97,11 @@ demand-1 =
           (λ a b s t. both a b (s.0 ∙ sym t.0, s.1 ∙ sym t.1)) (λ a t. t.1)
           (λ a t l. ap (λ (s : Standing). s.part) t.0 ∙ refused-empty (open_reader sheet k) l);
       stepping = λ r.
-          by_number (1 ∷ 2 ∷ 3 ∷ 4 ∷ 5 ∷ 6 ∷ 9 ∷ 13 ∷ []) refl (Steps r) (λ a. number (found_says a.0)) (answer (standing r)) (λ a. a.1 ≡ r)
+          by_number (1 ∷ 2 ∷ 3 ∷ 4 ∷ 5 ∷ 6 ∷ 9 ∷ 13 ∷ []) refl (Steps r) (λ a. number (says a.0)) (answer (standing r)) (λ a. a.1 ≡ r)
           (lookup-refusals (standing r).part (standing r).column (standing r).place)
           (λ a b s t. both a b (one-step r a.1 b.1 a.0 b.0 s t)) (λ a t. ap number t.0) (λ a t l. t.1 ∙ stands-still r l);
-      ranking = λ bytes bit. by_answer (1 ∷ 6 ∷ []) refl ranked_says (rank bytes bit) (rank-refusals bytes bit) (one_rank bytes bit);
-      selecting = λ bytes k. by_answer (1 ∷ 6 ∷ []) refl selected_says (select bytes k) (select-refusals bytes k) (one-select bytes k);
+      ranking = λ bytes bit. by_answer (1 ∷ 6 ∷ []) refl says (rank bytes bit) (rank-refusals bytes bit) (one_rank bytes bit);
+      selecting = λ bytes k. by_answer (1 ∷ 6 ∷ []) refl says_by bit_told (select bytes k) (select-refusals bytes k) (one-select bytes k);
     }
 
 -- ---- demand 2

@@ -1,5 +1,8 @@
 -- Demand 3 over the contracts alone: a sheet that passes is looked up, read and stepped through, and lists within the limits come back from end to end.
 -- Assumes nothing.
+use Rattle.meaning.specs.declared.Refusal.{Refusal}
+use Rattle.meaning.specs.declared.Fault.{Fault}
+use Rattle.std.specs.Prelude.{Result, Ok}
 use Prim.Native.Nat.{ℕ, zero, suc, ◌*◌, ◌≤◌, ◌<◌}
 use mathlib.Core.Path.{◌≡◌, refl, sym, ap, ◌∙◌, subst}
 use mathlib.Core.Bool.{true}
@@ -10,14 +13,6 @@ use Rattle.meaning.specs.Answer.{Answer, given, number, list, amount, filled, pa
 use Rattle.meaning.specs.Operations.{Order, listed_by, write_sheet, check, open_reader, call_over, call, numbers_at}
 use Rattle.meaning.specs.Places.{Below}
 use Rattle.meaning.specs.Sheet.{of_kind, Listed, column_for, assemble, sheet_bytes, edition_of, columns_of, column_at, read_column, largest_count}
-use Rattle.meaning.specs.declared.Sized.{Sized}
-use Rattle.meaning.specs.declared.Sized.TheVariants.{Bytes}
-use Rattle.meaning.specs.declared.Reading.{Reading}
-use Rattle.meaning.specs.declared.Reading.TheVariants.{Whole}
-use Rattle.meaning.specs.declared.Found.{Found}
-use Rattle.meaning.specs.declared.Found.TheVariants.{Number}
-use Rattle.meaning.specs.declared.Checked.{Checked}
-use Rattle.meaning.specs.declared.Checked.TheVariants.{Passed}
 use Rattle.table.proofs.ColumnLaws.{column-there}
 use Rattle.table.proofs.Columns.{column-count}
 use Rattle.writer.specs.Orders.{blank_listed}
@@ -50,16 +45,16 @@ module _ (sheet : List ℕ) (bytes : Below 256 sheet) (check_work : ℕ) (passes
   many : length xs ≡ (column_at sheet k).count
   many = numbers-many sheet bytes check_work passes k there
 
-  looks : (place : ℕ) → place < length xs → (r : Found) → Looks sheet k place r → r ≡ Number (get_or xs place 0)
-  looks place h r e = one-lookup sheet k place r (Number (get_or xs place 0)) e
+  looks : (place : ℕ) → place < length xs → (r : Result ℕ Refusal) → Looks sheet k place r → r ≡ Ok (get_or xs place 0)
+  looks place h r e = one-lookup sheet k place r (Ok (get_or xs place 0)) e
       (sym (looks-all sheet bytes check_work passes k there place (omega (arith, many))))
 
   reads : (work o : List ℕ) → 7 * length xs ≤ length work → length xs ≤ length o → (a : Reading × List ℕ) → Reads sheet k work o a
-      → a ≡ (Whole (length xs), xs ++ drop (length xs) o)
+      → a ≡ (Ok (length xs), xs ++ drop (length xs) o)
   reads work o enough fits a t =
       let e = reads_all sheet bytes check_work passes k there (length work) (length o) (omega (arith, many)) (omega (arith, many)) in
-      both a (Whole (length xs), xs ++ drop (length xs) o)
-      (one-read sheet k (length work) o a.1 (xs ++ drop (length xs) o) a.0 (Whole (length xs)) t
+      both a (Ok (length xs), xs ++ drop (length xs) o)
+      (one-read sheet k (length work) o a.1 (xs ++ drop (length xs) o) a.0 (Ok (length xs)) t
       (ap amount (sym e), sym (ap (λ (m : Answer (List ℕ)). filled m o) e)))
 
   opening : open_reader sheet k ≡ given sheet
@@ -86,10 +81,10 @@ module _ (sheet : List ℕ) (bytes : Below 256 sheet) (check_work : ℕ) (passes
       ap standing (moves n (omega arith)) ∙ stands-next sheet k n (readers n) (stands readers n first (λ i h. moves i (omega arith)))
 
   calls : (readers : ℕ → Reader) (answers : ℕ → Found) (e n : ℕ) → Opens sheet k (standing (readers 0), e)
-      → ((i : ℕ) → i ≤ n → Steps (readers i) (answers i, readers (suc i))) → n < length xs → answers n ≡ Number (get_or xs n 0)
+      → ((i : ℕ) → i ≤ n → Steps (readers i) (answers i, readers (suc i))) → n < length xs → answers n ≡ Ok (get_or xs n 0)
   calls readers answers e n t steps h =
       let here = stands readers n t.0 (λ i l. (steps i (omega arith)).1) in
-      one-call sheet k n (answers n) (Number (get_or xs n 0)) (tells-call sheet k n (readers n) (answers n) here (steps n (omega arith)).0)
+      one-call sheet k n (answers n) (Ok (get_or xs n 0)) (tells-call sheet k n (readers n) (answers n) here (steps n (omega arith)).0)
       (sym (calls-all n h))
 
   holds-it : Holds sheet k (numbers_at sheet k)
@@ -130,7 +125,7 @@ module _ (edition : ℕ) (orders : List Order) (joined work o : List ℕ) (w : W
       (holds-it sheet bytes (8 * largest_count sheet) (passes (8 * largest_count sheet) (omega arith)) k (omega (arith, many-columns)))
 
   module _ (a : Sized × List ℕ) (t : Writes edition orders joined work o a) where
-    answered : a ≡ (Bytes (length sheet), sheet ++ drop (length sheet) o)
+    answered : a ≡ (Ok (length sheet), sheet ++ drop (length sheet) o)
     answered = filled-with (write_sheet edition orders joined (length work) (length o)) sheet o a stuck.written t
 
     is : sheet ≡ take (length sheet) a.1
@@ -148,7 +143,7 @@ module _ (edition : ℕ) (orders : List Order) (joined work o : List ℕ) (w : W
           most = stuck.within;
           made = sym (ap edition_of is) ∙ first_byte;
           bytes = subst (Below 256) is bytes;
-          passes = subst (λ (s : List ℕ). (work : List ℕ) → 8 * largest_count s ≤ length work → (r : Checked) → Checks s work r → r ≡ Passed) is
-              (λ v h r c. one-check sheet (length v) r Passed c (sym (passes (length v) h)));
+          passes = subst (λ (s : List ℕ). (work : List ℕ) → 8 * largest_count s ≤ length work → (r : Result (Unit {0}) Fault) → Checks s work r → r ≡ Ok) is
+              (λ v h r c. one-check sheet (length v) r Ok c (sym (passes (length v) h)));
           holds = λ k h. subst (λ (s : List ℕ). Holds s k (get_or ls k blank_listed).numbers) is (holds k h);
         }

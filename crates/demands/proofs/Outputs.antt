@@ -1,13 +1,12 @@
 -- What a call answers and what its output holds afterwards: what was given, and not a place more; after a refusal, what it held. Assumes nothing.
+use Rattle.std.specs.Prelude.{Ok}
 use Prim.Native.Nat.{ℕ}
 use mathlib.Core.Path.{◌≡◌, refl, ap, ◌∙◌}
 use mathlib.Core.List.{List, ◌++◌}
 use lib.ListN.{length, take, drop}
 use lib.Seq.{take-append_seam, drop-append_seam}
 use Rattle.meaning.specs.Answer.{Answer, given, refused, amount, filled}
-use Rattle.meaning.specs.Says.{sized_says}
-use Rattle.meaning.specs.declared.Sized.{Sized}
-use Rattle.meaning.specs.declared.Sized.TheVariants.{Bytes}
+use Rattle.meaning.specs.Says.{says}
 use Rattle.judge.proofs.Unique.{one-sized}
 use Rattle.demands.specs.Promises.{Fills}
 
@@ -27,8 +26,8 @@ pub both : {A B : Type 0} (a b : A × B) → (a.0 ≡ b.0) × (a.1 ≡ b.1) → 
 both a b h = λ i. (h.0 i, h.1 i)
 
 -- a writer that is to give these bytes says how many they are, and its output begins with them
-pub filled-with : (m : Answer (List ℕ)) (bytes o : List ℕ) (a : Sized × List ℕ) → m ≡ given bytes → Fills m o (sized_says a.0) a.1
-    → a ≡ (Bytes (length bytes), bytes ++ drop (length bytes) o)
+pub filled-with : (m : Answer (List ℕ)) (bytes o : List ℕ) (a : Sized × List ℕ) → m ≡ given bytes → Fills m o (says a.0) a.1
+    → a ≡ (Ok (length bytes), bytes ++ drop (length bytes) o)
 filled-with m bytes o a e t =
-    both a (Bytes (length bytes), bytes ++ drop (length bytes) o)
-    (one-sized a.0 (Bytes (length bytes)) (given (length bytes)) (t.0 ∙ ap amount e) refl, t.1 ∙ ap (λ (x : Answer (List ℕ)). filled x o) e)
+    both a (Ok (length bytes), bytes ++ drop (length bytes) o)
+    (one-sized a.0 (Ok (length bytes)) (given (length bytes)) (t.0 ∙ ap amount e) refl, t.1 ∙ ap (λ (x : Answer (List ℕ)). filled x o) e)

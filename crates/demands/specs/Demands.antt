@@ -23,8 +23,8 @@ use Rattle.meaning.specs.Operations.{write_sheet, write_apart, check, read_sheet
 use Rattle.meaning.specs.Places.{Below}  -- every number of a list is below
 use Rattle.meaning.specs.Plan.{judge_plan, judge, worst_size}  -- a plan judged for a kind; the same asked alone, and the worst size
 use Rattle.meaning.specs.Rank.{rank, select}  -- ones counted and found
-use Rattle.meaning.specs.Says.{judged_says, sized_says, reading_says, found_says, checked_says, counted_says}  -- what an answer of the source says
-use Rattle.meaning.specs.Says.{ranked_says, selected_says}
+use Rattle.meaning.specs.Says.{says, verdict_says, counted_says}  -- what an answer of the source says
+use Rattle.meaning.specs.Says.{says, says_by, bit_told}
 use Rattle.meaning.specs.Sheet.{is_edition, of_kind, sheet_bytes, worst_sheet}  -- 1 or 2; a list is of a kind; the defined bytes of columns; their worst size
 use Rattle.meaning.specs.Sheet.{edition_of, columns_of}
 use Rattle.meaning.specs.Sheet.{column_at, read_column, largest_count}  -- byte 0; its columns; column k; one read strictly; largest count
@@ -48,29 +48,29 @@ pub record Answers {A : Type 0} (Meets : A → Type 0) (told : A → ℕ) (meant
 
 pub record Demand1 : Type 0 where  -- the public operations
   pub judging : (kind : ℕ) (plan : List ℕ)
-      → Answers (Judges kind plan) (λ r. number (judged_says r)) (verdict_of (judge kind plan)) (3 ∷ 4 ∷ 11 ∷ []) (λ r. Unit {0})
-  pub sizing : (plan : List ℕ) (n : ℕ) → Answers (Sizes plan n) (λ r. number (sized_says r)) (verdict_of (worst_size plan n)) (3 ∷ 11 ∷ []) (λ r. Unit {0})
-  pub writing : (edition : ℕ) (orders : List Order) (joined work o : List ℕ) → Answers (Writes edition orders joined work o) (λ a. number (sized_says a.0))
+      → Answers (Judges kind plan) (λ r. number (says r)) (verdict_of (judge kind plan)) (3 ∷ 4 ∷ 11 ∷ []) (λ r. Unit {0})
+  pub sizing : (plan : List ℕ) (n : ℕ) → Answers (Sizes plan n) (λ r. number (says r)) (verdict_of (worst_size plan n)) (3 ∷ 11 ∷ []) (λ r. Unit {0})
+  pub writing : (edition : ℕ) (orders : List Order) (joined work o : List ℕ) → Answers (Writes edition orders joined work o) (λ a. number (says a.0))
       (verdict_of (write_sheet edition orders joined (length work) (length o))) (3 ∷ 4 ∷ 7 ∷ 8 ∷ 10 ∷ 11 ∷ []) (λ a. a.1 ≡ o)
   pub writing_apart : (edition : ℕ) (kinds plans counts joined work o : List ℕ)
-      → Answers (WritesApart edition kinds plans counts joined work o) (λ a. number (sized_says a.0))
+      → Answers (WritesApart edition kinds plans counts joined work o) (λ a. number (says a.0))
       (verdict_of (write_apart edition kinds plans counts joined (length work) (length o))) (3 ∷ 4 ∷ 7 ∷ 8 ∷ 10 ∷ 11 ∷ []) (λ a. a.1 ≡ o)
   pub checking : (sheet work : List ℕ)
-      → Answers (Checks sheet work) (λ r. refusal (checked_says r)) (check sheet (length work)) (1 ∷ 2 ∷ 3 ∷ 4 ∷ 8 ∷ 9 ∷ 13 ∷ []) (λ r. Unit {0})
-  pub reading : (sheet : List ℕ) (k : ℕ) (work o : List ℕ) → Answers (Reads sheet k work o) (λ a. number (reading_says a.0))
+      → Answers (Checks sheet work) (λ r. refusal (verdict_says r)) (check sheet (length work)) (1 ∷ 2 ∷ 3 ∷ 4 ∷ 8 ∷ 9 ∷ 13 ∷ []) (λ r. Unit {0})
+  pub reading : (sheet : List ℕ) (k : ℕ) (work o : List ℕ) → Answers (Reads sheet k work o) (λ a. number (says a.0))
       (verdict_of (read_sheet sheet k (length work) (length o))) (1 ∷ 2 ∷ 3 ∷ 4 ∷ 5 ∷ 7 ∷ 8 ∷ 9 ∷ 13 ∷ []) (λ a. a.1 ≡ o)
   pub looking : (sheet : List ℕ) (k place : ℕ)
-      → Answers (Looks sheet k place) (λ r. number (found_says r)) (verdict_of (look_sheet sheet k place)) (1 ∷ 2 ∷ 3 ∷ 4 ∷ 5 ∷ 6 ∷ 9 ∷ 13 ∷ []) (λ r. Unit {0})
+      → Answers (Looks sheet k place) (λ r. number (says r)) (verdict_of (look_sheet sheet k place)) (1 ∷ 2 ∷ 3 ∷ 4 ∷ 5 ∷ 6 ∷ 9 ∷ 13 ∷ []) (λ r. Unit {0})
   pub fetching : (sheet : List ℕ) (k : ℕ) → Answers (Fetches sheet k) (λ a. a.1) (verdict_of (fetch sheet k)) (1 ∷ 2 ∷ 3 ∷ 4 ∷ 5 ∷ []) (λ a. a.0 ≡ [])
   pub counting : (sheet work : List ℕ) → Answers (Counts sheet work) (λ r. refusal (counted_says r).0) (count_board sheet (length work)).0
       (1 ∷ 2 ∷ 3 ∷ 4 ∷ 8 ∷ 9 ∷ 12 ∷ 13 ∷ []) (λ r. (counted_says r).1 ≡ no_tally)
   pub opening : (sheet : List ℕ) (k : ℕ) → Answers (Opens sheet k) (λ a. a.1) (verdict_of (open_reader sheet k)) (1 ∷ 2 ∷ 3 ∷ 4 ∷ 5 ∷ []) (λ a. a.0.part ≡ [])
-  pub stepping : (s : Reader) → Answers (Steps s) (λ a. number (found_says a.0)) (verdict_of (answer (standing s)))
+  pub stepping : (s : Reader) → Answers (Steps s) (λ a. number (says a.0)) (verdict_of (answer (standing s)))
       (1 ∷ 2 ∷ 3 ∷ 4 ∷ 5 ∷ 6 ∷ 9 ∷ 13 ∷ []) (λ a. a.1 ≡ s)
   pub ranking : (bytes : List ℕ) (bit : ℕ)
-      → Answers (Ranks bytes bit) (λ r. number (ranked_says r)) (verdict_of (rank bytes bit)) (1 ∷ 6 ∷ []) (λ r. Unit {0})
+      → Answers (Ranks bytes bit) (λ r. number (says r)) (verdict_of (rank bytes bit)) (1 ∷ 6 ∷ []) (λ r. Unit {0})
   pub selecting : (bytes : List ℕ) (k : ℕ)
-      → Answers (Selects bytes k) (λ r. number (selected_says r)) (verdict_of (select bytes k)) (1 ∷ 6 ∷ []) (λ r. Unit {0})
+      → Answers (Selects bytes k) (λ r. number (says_by bit_told r)) (verdict_of (select bytes k)) (1 ∷ 6 ∷ []) (λ r. Unit {0})
 
 -- ---- DEMAND 2. Writing gives precisely the bytes that the papers and document 01 define; reading precisely the lists; a sheet that passes the check, written
 -- again in its own edition from its own lists, kinds and plans, comes out byte for byte the same.

@@ -1,4 +1,6 @@
 -- What is gathered of a list is the list, and is written as the list. Assumes nothing.
+use Rattle.meaning.specs.declared.Refusal.{Refusal}
+use Rattle.std.specs.Prelude.{Result}
 use Prim.Native.Nat.{ℕ, zero, suc, ◌≤◌, ◌<◌, min}
 use mathlib.Core.Path.{◌≡◌, refl, sym, ap, subst, ◌∙◌}
 use mathlib.Core.Bool.{Bool, false}
@@ -12,8 +14,7 @@ use Rattle.meaning.specs.Promises.{Fills}
 use Rattle.meaning.specs.Limits.{most_columns, bad_orders}
 use Rattle.meaning.specs.Operations.{Order as OrderMeant, orders_hold, listed_by, write_listed, write_sheet}
 use Rattle.meaning.specs.Sheet.{is_edition}
-use Rattle.meaning.specs.Says.{sized_says}
-use Rattle.meaning.specs.declared.Sized.{Sized}
+use Rattle.meaning.specs.Says.{says}
 use Rattle.meaning.proofs.Answers.{need-refused}
 use Rattle.meaning.proofs.Tests.{by_order}
 use Rattle.orders.specs.Orders.{order_says}
@@ -22,7 +23,7 @@ use Rattle.orders.specs.declared.Order.{Order}
 
 -- what a write tells and leaves, by its answer
 abbrev pub Told : Answer (List ℕ) → List ℕ → Sized → List ℕ → Type 0
-Told a o r o' = Fills a o (sized_says r) o'
+Told a o r o' = Fills a o (says r) o'
 
 -- over 16 orders are no orders
 many : (orders : List OrderMeant) (numbers : List ℕ) → most_columns < length orders → orders_hold orders numbers ≡ false
@@ -76,7 +77,7 @@ module _ (orders : List Order) where
     pub gathered-writes : Written
     gathered-writes = by_order most_columns (length orders) over within
 
-pub told : (edition : ℕ) (orders : List Order) (numbers : List ℕ) (work : ℕ) (o : List ℕ) (r : Sized) (o' : List ℕ)
+pub told : (edition : ℕ) (orders : List Order) (numbers : List ℕ) (work : ℕ) (o : List ℕ) (r : Result ℕ Refusal) (o' : List ℕ)
     → Told (write_gathered edition (gathered orders) numbers work (length o)) o r o'
     → Told (write_sheet edition (map order_says orders) numbers work (length o)) o r o'
 told edition orders numbers work o r o' = subst (λ (a : Answer (List ℕ)). Told a o r o') (gathered-writes orders edition numbers work (length o))

@@ -1,4 +1,6 @@
 -- Orders taken apart: the slices that are made of them are their kinds, plans and counts. Assumes nothing.
+use Rattle.meaning.specs.declared.Refusal.{Refusal}
+use Rattle.std.specs.Prelude.{Result, Err}
 use Prim.Native.Nat.{ℕ, ◌+◌, ◌*◌, ◌≤◌, ◌<◌}
 use mathlib.Core.Path.{◌≡◌, refl, sym, ap, ap₂, subst, ◌∙◌}
 use mathlib.Core.Bool.{Bool, true, ◌&&◌}
@@ -13,8 +15,6 @@ use lib.Seq.{sets, length-sets, take_all, take-suc, take-suc-set, take-append-le
 use Rattle.meaning.specs.Answer.{Answer, need}
 use Rattle.meaning.specs.Limits.{most_columns, plan_bytes, bad_orders}
 use Rattle.meaning.specs.Operations.{Order as OrderMeant, orders_of, write_sheet, write_apart}
-use Rattle.meaning.specs.declared.Sized.{Sized}
-use Rattle.meaning.specs.declared.Sized.TheVariants.{Refused}
 use Rattle.meaning.proofs.Stores.{part-more}
 use Rattle.meaning.proofs.Tests.{true-both}
 use Rattle.stages.proofs.Copies.{Copying, copying-start, copying-turn, copying-end}
@@ -182,10 +182,10 @@ module _ (edition : ℕ) (g : Gathered) (numbers : List ℕ) (work : ℕ) (o : L
   abbrev asked : Bool → Answer (List ℕ)
   asked b = need b bad_orders (write_sheet edition (map order_says (take g.n g.list)) numbers work (length o))
 
-  pub refuse-many : most_columns < g.n → Told (write_gathered edition g numbers work (length o)) o (Refused bad_orders) o
-  refuse-many h = subst (λ (b : Bool). Told (asked b) o (Refused bad_orders) o) (sym (lt-leb g.n most_columns h)) (refl, refl)
+  pub refuse-many : most_columns < g.n → Told (write_gathered edition g numbers work (length o)) o (Err bad_orders) o
+  refuse-many h = subst (λ (b : Bool). Told (asked b) o (Err bad_orders) o) (sym (lt-leb g.n most_columns h)) (refl, refl)
 
-  pub written : {kinds plans counts : List ℕ} {i : ℕ} → Apart g.list g.n kinds plans counts i → g.n ≤ i → (r : Sized) (o' : List ℕ)
+  pub written : {kinds plans counts : List ℕ} {i : ℕ} → Apart g.list g.n kinds plans counts i → g.n ≤ i → (r : Result ℕ Refusal) (o' : List ℕ)
       → Told (write_apart edition (take g.n kinds) (take (plan_bytes * g.n) plans) (take g.n counts) numbers work (length o)) o r o'
       → Told (write_gathered edition g numbers work (length o)) o r o'
   written so h r o' =

@@ -1,4 +1,6 @@
 -- Call n of an opened reader answers as document 01 says, for every n. Assumes nothing.
+use Rattle.meaning.specs.declared.Refusal.{Refusal}
+use Rattle.std.specs.Prelude.{Result}
 use Prim.Native.Nat.{ℕ, zero, suc, ◌+◌, ◌-◌, ◌≤◌, ◌<◌, min}
 use mathlib.Core.Path.{◌≡◌, refl, sym, ap, ◌∙◌}
 use mathlib.Core.List.{List, []}
@@ -7,9 +9,8 @@ use native.Mathlib.Omega.{arith}
 use Rattle.meaning.specs.Answer.{Answer, given, refused, list}
 use Rattle.meaning.specs.Limits.{most_numbers, no_sheet}
 use Rattle.meaning.specs.Operations.{look_sheet, open_reader, call_over, call}
-use Rattle.meaning.specs.Says.{found_says}
+use Rattle.meaning.specs.Says.{says}
 use Rattle.meaning.specs.Sheet.{is_sheet, sound}
-use Rattle.meaning.specs.declared.Found.{Found}
 use Rattle.meaning.proofs.Answers.{not-given}
 use Rattle.meaning.proofs.Tests.{by_order}
 use Rattle.table.proofs.ColumnLaws.{column-unsound}
@@ -110,13 +111,13 @@ module _ (sheet : List ℕ) (k : ℕ) where
   stands-next n r e = ap next e
 
   -- and what it tells there
-  pub tells-call : (n : ℕ) (r : Reader) (x : Found) → standing r ≡ after n (opened sheet k) → found_says x ≡ answer (standing r) → found_says x ≡ call sheet k n
+  pub tells-call : (n : ℕ) (r : Reader) (x : Result ℕ Refusal) → standing r ≡ after n (opened sheet k) → says x ≡ answer (standing r) → says x ≡ call sheet k n
   tells-call n r x e told = told ∙ (ap answer e ∙ call-after n)
 
   -- a run of calls: what `open` promises of the first reader, and `step` of each answer and of the reader that it leaves
   pub record Run (readers : ℕ → Reader) (answers : ℕ → Found) : Type 0 where
     pub opens : standing (readers 0) ≡ opened sheet k
-    pub tells : (n : ℕ) → found_says (answers n) ≡ answer (standing (readers n))
+    pub tells : (n : ℕ) → says (answers n) ≡ answer (standing (readers n))
     pub moves : (n : ℕ) → readers (suc n) ≡ moved (readers n)
 
   stands : (readers : ℕ → Reader) (answers : ℕ → Found) → Run readers answers → (n : ℕ) → standing (readers n) ≡ after n (opened sheet k)
@@ -124,7 +125,7 @@ module _ (sheet : List ℕ) (k : ℕ) where
   stands readers answers run (suc n) = ap standing (run.moves n) ∙ stands-next n (readers n) (stands readers answers run n)
 
   -- every answer of every run
-  pub every_call : (readers : ℕ → Reader) (answers : ℕ → Found) → Run readers answers → (n : ℕ) → found_says (answers n) ≡ call sheet k n
+  pub every_call : (readers : ℕ → Reader) (answers : ℕ → Found) → Run readers answers → (n : ℕ) → says (answers n) ≡ call sheet k n
   every_call readers answers run n = tells-call n (readers n) (answers n) (stands readers answers run n) (run.tells n)
 
   -- so many calls before call n are enough

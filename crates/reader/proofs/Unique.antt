@@ -1,11 +1,12 @@
 -- One possible answer: two answers, and two readers left, that meet the contract are equal. Assumes nothing.
+use Rattle.meaning.specs.declared.Refusal.{Refusal}
+use Rattle.std.specs.Prelude.{Result}
 use Prim.Native.Nat.{ℕ}
 use mathlib.Core.Path.{◌≡◌, sym, ◌∙◌}
 use mathlib.Core.List.{List}
 use Rattle.meaning.specs.Answer.{number}
 use Rattle.meaning.specs.Operations.{open_reader, call}
-use Rattle.meaning.specs.Says.{found_says}
-use Rattle.meaning.specs.declared.Found.{Found}
+use Rattle.meaning.specs.Says.{says}
 use Rattle.sheet.proofs.Unique.{one-lookup}
 use Rattle.reader.specs.Steps.{opened, answer, after, standing, moved}
 use Rattle.reader.specs.declared.Reader.{Reader}
@@ -20,23 +21,23 @@ pub one-open : (sheet : List ℕ) (k : ℕ) (r r' : Reader) (told told' : ℕ)
 one-open sheet k r r' told told' e f = (e.0 ∙ sym f.0, e.1 ∙ sym f.1)
 
 -- the answer, and the reader left
-pub one-step : (r exit exit' : Reader) (x x' : Found)
-    → (found_says x ≡ answer (standing r)) × (exit ≡ moved r)
-    → (found_says x' ≡ answer (standing r)) × (exit' ≡ moved r)
+pub one-step : (r exit exit' : Reader) (x x' : Result ℕ Refusal)
+    → (says x ≡ answer (standing r)) × (exit ≡ moved r)
+    → (says x' ≡ answer (standing r)) × (exit' ≡ moved r)
     → (x ≡ x') × (exit ≡ exit')
 one-step r exit exit' x x' e f =
     (one-lookup (standing r).part (standing r).column (standing r).place x x' e.0 f.0, e.1 ∙ sym f.1)
 
 -- the answer of a call by its number
-pub one-call : (sheet : List ℕ) (k n : ℕ) (x x' : Found) → found_says x ≡ call sheet k n → found_says x' ≡ call sheet k n → x ≡ x'
+pub one-call : (sheet : List ℕ) (k n : ℕ) (x x' : Result ℕ Refusal) → says x ≡ call sheet k n → says x' ≡ call sheet k n → x ≡ x'
 one-call sheet k n x x' e f =
     let s = after n (opened sheet k) in
     one-lookup s.part s.column s.place x x' (e ∙ sym (call-after sheet k n)) (f ∙ sym (call-after sheet k n))
 
 -- the answers of the first three calls
 pub one-three : (sheet : List ℕ) (k : ℕ) (t t' : FirstThree)
-    → (found_says t.first ≡ call sheet k 0) × (found_says t.second ≡ call sheet k 1) × (found_says t.third ≡ call sheet k 2)
-    → (found_says t'.first ≡ call sheet k 0) × (found_says t'.second ≡ call sheet k 1) × (found_says t'.third ≡ call sheet k 2)
+    → (says t.first ≡ call sheet k 0) × (says t.second ≡ call sheet k 1) × (says t.third ≡ call sheet k 2)
+    → (says t'.first ≡ call sheet k 0) × (says t'.second ≡ call sheet k 1) × (says t'.third ≡ call sheet k 2)
     → t ≡ t'
 one-three sheet k t t' e f =
     let first : t.first ≡ t'.first = one-call sheet k 0 t.first t'.first e.0 f.0 in

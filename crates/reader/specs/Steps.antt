@@ -2,8 +2,7 @@
 use Rattle.std.specs.Prelude.{ℕ, zero, suc, ◌+◌, ◌≡◌, List}
 use Rattle.meaning.specs.Answer.{Answer, given, refused, list, number}
 use Rattle.meaning.specs.Operations.{look_sheet, open_reader}
-use Rattle.meaning.specs.Says.{found_says}
-use Rattle.meaning.specs.declared.Found.{Found}
+use Rattle.meaning.specs.Says.{says}
 use Rattle.reader.specs.declared.Reader.{Reader}
 
 pub record Standing : Type 0 where
@@ -47,7 +46,7 @@ Opens sheet k a = (a.0 ≡ opened sheet k) × (a.1 ≡ number (open_reader sheet
 
 -- step: the answer, and the reader that is left
 abbrev pub Steps : Reader → Found × Reader → Type 0
-Steps r a = (found_says a.0 ≡ answer (standing r)) × (a.1 ≡ moved r)
+Steps r a = (says a.0 ≡ answer (standing r)) × (a.1 ≡ moved r)
 
 -- a lookup's answer a at a place is told, and the place after it
 abbrev pub LooksOn : Answer ℕ → ℕ → Answer ℕ × ℕ → Type 0

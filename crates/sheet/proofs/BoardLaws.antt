@@ -1,4 +1,6 @@
 -- What the board's rules and its verdict say, over plain variables. Assumes nothing.
+use Rattle.meaning.specs.declared.Refusal.{Refusal}
+use Rattle.std.specs.Prelude.{Result, Ok, Err}
 use Prim.Native.Nat.{ℕ, ◌≤◌, ◌<◌}
 use mathlib.Core.Path.{◌≡◌, refl, sym, ap, ◌∙◌}
 use mathlib.Core.Bool.{Bool, true, false, ◌&&◌}
@@ -13,8 +15,6 @@ use Rattle.meaning.specs.Lists.{all, differ}
 use Rattle.meaning.specs.Operations.{check, numbers_at, board_holds, board_verdict, no_tally, count_board}
 use Rattle.meaning.specs.Places.{Got, part}
 use Rattle.meaning.specs.Sheet.{columns_of, column_at, read_column, column_count}
-use Rattle.meaning.specs.declared.Reading.{Reading}
-use Rattle.meaning.specs.declared.Reading.TheVariants.{Whole, Refused}
 use Rattle.meaning.proofs.Answers.{not-given}
 use Rattle.meaning.proofs.Tests.{both_true}
 use Rattle.table.specs.Entries.{Here, EntryIs}
@@ -39,15 +39,15 @@ module _ {sheet : List ℕ} {k : ℕ} {w : List ℕ} {e : Entry} (known : Known 
   pub known-readable : Readable sheet w e
   known-readable = readable is (known-here known) (omega (arith, is.count, count_most sheet k known.exists, (known-ready known).room))
 
-  module _ {w₁ : List ℕ} {q : Reading} (so : Got (read_column (column_of sheet e)) 0 w w₁ q) where
-    pub again-whole : {n : ℕ} → q ≡ Whole n → ReadAgain sheet k w₁ n
+  module _ {w₁ : List ℕ} {q : Result ℕ Refusal} (so : Got (read_column (column_of sheet e)) 0 w w₁ q) where
+    pub again-whole : {n : ℕ} → q ≡ Ok n → ReadAgain sheet k w₁ n
     unfolding numbers_at
     again-whole {n} t =
         let (r, many) = entry-given is so t in
         record { fits = omega (arith, many, length-take n w₁); here = sym (ap list r) }
 
     -- it was read before, so that it is not refused
-    pub again-never : {z : ℕ} → q ≡ Refused z → ReadAgain sheet k w₁ 0
+    pub again-never : {z : ℕ} → q ≡ Err z → ReadAgain sheet k w₁ 0
     again-never {z} t =
         let (xs, r) = column-passed sheet (length w) known.checked k known.exists in
         absurd (not-given z xs (sym (entry-refused is so t) ∙ r))

@@ -1,4 +1,6 @@
 -- What checking a sheet answers, over plain variables. Assumes nothing.
+use Rattle.meaning.specs.declared.Refusal.{Refusal}
+use Rattle.std.specs.Prelude.{Result, Ok, Err}
 use Prim.Native.Nat.{ℕ, zero, suc, ◌+◌, ◌*◌, ◌≤◌, ◌<◌}
 use mathlib.Core.Path.{◌≡◌, sym, ◌∙◌}
 use mathlib.Core.Bool.{true}
@@ -14,8 +16,6 @@ use Rattle.meaning.specs.Lists.{all, largest}
 use Rattle.meaning.specs.Operations.{check}
 use Rattle.meaning.specs.Places.{Got}
 use Rattle.meaning.specs.Sheet.{Column, columns_of, column_at, sound, read_column, check_column, largest_count, column_count}
-use Rattle.meaning.specs.declared.Reading.{Reading}
-use Rattle.meaning.specs.declared.Reading.TheVariants.{Whole, Refused}
 use Rattle.meaning.proofs.Tests.{both_true}
 use Rattle.table.specs.Entries.{Here, EntryIs}
 use Rattle.table.specs.Offsets.{blank_column}
@@ -107,8 +107,8 @@ module _ {sheet w₀ : List ℕ} {columns : ℕ} {w : List ℕ} {k : ℕ} (so : 
       bodies-readable =
           readable is bodies-here (omega (arith, is.count, count_most sheet k bodies-here.exists, so.ready.room, so.long))
 
-      module _ {w₁ : List ℕ} {q : Reading} (got : Got (read_column (column_of sheet e)) 0 w w₁ q) where
-        pub bodies-turn : {m : ℕ} → q ≡ Whole m → length w₁ ≡ length w → Checking sheet w₀ columns w₁ (k + 1)
+      module _ {w₁ : List ℕ} {q : Result ℕ Refusal} (got : Got (read_column (column_of sheet e)) 0 w w₁ q) where
+        pub bodies-turn : {m : ℕ} → q ≡ Ok m → length w₁ ≡ length w → Checking sheet w₀ columns w₁ (k + 1)
         unfolding check_column
         bodies-turn t l =
             record {
@@ -118,6 +118,6 @@ module _ {sheet w₀ : List ℕ} {columns : ℕ} {w : List ℕ} {k : ℕ} (so : 
               below = below-turn check_column (columns_of sheet) blank_column k so.below inside _ (entry-given is got t).0;
             }
 
-        pub bodies-refuse : {z : ℕ} → q ≡ Refused z → blamed z k ≡ in_turn check_column 0 (columns_of sheet)
+        pub bodies-refuse : {z : ℕ} → q ≡ Err z → blamed z k ≡ in_turn check_column 0 (columns_of sheet)
         unfolding check_column
         bodies-refuse t = sym (below-refuse check_column (columns_of sheet) blank_column k so.below inside _ (entry-refused is got t))

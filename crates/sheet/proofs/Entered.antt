@@ -1,4 +1,6 @@
 -- A column by its entry: the parts that are lent for it, and what was read of them. Assumes nothing.
+use Rattle.meaning.specs.declared.Refusal.{Refusal}
+use Rattle.std.specs.Prelude.{Result, Ok, Err}
 use Prim.Native.Nat.{ℕ, ◌+◌, ◌-◌, ◌*◌, ◌≤◌}
 use mathlib.Core.Path.{◌≡◌, sym, ap, ap₂, ◌∙◌}
 use mathlib.Core.List.{List}
@@ -10,8 +12,6 @@ use Rattle.meaning.specs.Operations.{column}
 use Rattle.meaning.specs.Places.{part, Below, Got}
 use Rattle.meaning.specs.Plan.{Plan, plan_of}
 use Rattle.meaning.specs.Sheet.{Column, column_at, read_column}
-use Rattle.meaning.specs.declared.Reading.{Reading}
-use Rattle.meaning.specs.declared.Reading.TheVariants.{Whole, Refused}
 use Rattle.meaning.proofs.Bounds.{below-take, below-drop}
 use Rattle.stages.proofs.Gots.{got-given, got-not}
 use Rattle.table.specs.Entries.{Here, EntryIs, Opened}
@@ -50,14 +50,14 @@ module _ {sheet : List ℕ} {k : ℕ} {e : Entry} (is : EntryIs sheet k e) where
   column-of = λ i. record { edition = is.edition i; kind = is.kind i; plan = is.plan i; count = is.count i; size = is.size i; body = is.body i }
 
   -- what was read by the entry is column k's
-  module _ {w w₁ : List ℕ} {q : Reading} (got : Got (read_column (column_of sheet e)) 0 w w₁ q) where
+  module _ {w w₁ : List ℕ} {q : Result ℕ Refusal} (got : Got (read_column (column_of sheet e)) 0 w w₁ q) where
     same : read_column (column_at sheet k) ≡ read_column (column_of sheet e)
     same = ap read_column (sym column-of)
 
-    pub entry-given : {n : ℕ} → q ≡ Whole n → (read_column (column_at sheet k) ≡ given (part w₁ 0 n)) × (length (part w₁ 0 n) ≡ n)
+    pub entry-given : {n : ℕ} → q ≡ Ok n → (read_column (column_at sheet k) ≡ given (part w₁ 0 n)) × (length (part w₁ 0 n) ≡ n)
     entry-given {n} t = let (r, many) = got-given (read_column (column_of sheet e)) 0 w w₁ q got n t in (same ∙ r, many)
 
-    pub entry-refused : {z : ℕ} → q ≡ Refused z → read_column (column_at sheet k) ≡ refused z
+    pub entry-refused : {z : ℕ} → q ≡ Err z → read_column (column_at sheet k) ≡ refused z
     entry-refused {z} t = same ∙ got-not (read_column (column_of sheet e)) 0 w w₁ q got z t
 
   module _ (here : Here sheet k) where

@@ -1,4 +1,6 @@
 -- A column read: its plan's reading, and that the list is of its kind. Assumes only the laws of the codes.
+use Rattle.meaning.specs.declared.Refusal.{Refusal}
+use Rattle.std.specs.Prelude.{Result, Ok, Err}
 use Prim.Native.Nat.{ℕ, ◌+◌, ◌≤◌}
 use mathlib.Core.Path.{◌≡◌, refl, sym, ap, ◌∙◌, subst}
 use mathlib.Core.Bool.{true, false}
@@ -11,8 +13,6 @@ use Rattle.meaning.specs.Places.{part, Below, Got}
 use Rattle.meaning.specs.Plan.{plan_of}
 use Rattle.meaning.specs.Sheet.{Column, of_kind, edition_of, read_column}
 use Rattle.meaning.specs.Stages.{read}
-use Rattle.meaning.specs.declared.Reading.{Reading}
-use Rattle.meaning.specs.declared.Reading.TheVariants.{Whole, Refused}
 use Rattle.meaning.proofs.Answers.{bind-given, need-given}
 use Rattle.stages.proofs.Back.{back}
 use Rattle.stages.proofs.Gots.{got-refused, got-given, got-stop, got-then}
@@ -26,7 +26,7 @@ abbrev keep : ℕ → ℕ → List ℕ → Answer (List ℕ)
 keep edition kind xs = need (of_kind edition kind xs) broken (given xs)
 
 -- a list that stands in work where it is
-got-part : (w : List ℕ) (n : ℕ) → length (part w 0 n) ≡ n → Got (given (part w 0 n)) 0 w w (Whole n)
+got-part : (w : List ℕ) (n : ℕ) → length (part w 0 n) ≡ n → Got (given (part w 0 n)) 0 w w (Ok n)
 got-part w n many =
     record {
       told = ap (λ (j : ℕ). given j) (sym many);
@@ -35,7 +35,7 @@ got-part w n many =
     }
 
 -- what was read from the parts that are lent for an entry
-module _ (sheet : List ℕ) (e : Entry) {w w₁ : List ℕ} {q : Reading}
+module _ (sheet : List ℕ) (e : Entry) {w w₁ : List ℕ} {q : Result ℕ Refusal}
     (lent : Got (read (plan_of (plan_part sheet e)) (body_part sheet e) e.count) 0 w w₁ q) where
   abbrev all : Answer (List ℕ)
   all = read (plan_of (column_of sheet e).plan) (column_of sheet e).body (column_of sheet e).count
@@ -43,26 +43,26 @@ module _ (sheet : List ℕ) (e : Entry) {w w₁ : List ℕ} {q : Reading}
   so : Got all 0 w w₁ q
   so = subst (λ (a : Answer (List ℕ)). Got a 0 w w₁ q) (of-column sheet e read) lent
 
-  pub column-stop : {z : ℕ} → q ≡ Refused z → Got (read_column (column_of sheet e)) 0 w w₁ (Refused z)
+  pub column-stop : {z : ℕ} → q ≡ Err z → Got (read_column (column_of sheet e)) 0 w w₁ (Err z)
   unfolding read_column
   column-stop {z} t = got-stop all 0 w w₁ q so (keep (edition_of sheet) e.kind) z t
 
-  module _ {n : ℕ} (t : q ≡ Whole n) where
+  module _ {n : ℕ} (t : q ≡ Ok n) where
     pub column-room : 0 + n ≤ length w₁
     column-room = omega (arith, (got-given all 0 w w₁ q so n t).1, length-take n w₁)
 
     module _ {edition : ℕ} (known : edition ≡ edition_of sheet) where
-      pub column-kept : true ≡ of_kind edition e.kind (part w₁ 0 n) → Got (read_column (column_of sheet e)) 0 w w₁ (Whole n)
+      pub column-kept : true ≡ of_kind edition e.kind (part w₁ 0 n) → Got (read_column (column_of sheet e)) 0 w w₁ (Ok n)
       unfolding read_column
       column-kept y =
           let k : keep (edition_of sheet) e.kind (part w₁ 0 n) ≡ given (part w₁ 0 n) = rw (← known, ← y) in
-          got-then all 0 w w₁ q so (keep (edition_of sheet) e.kind) n t w₁ (Whole n)
-          (subst (λ (a : Answer (List ℕ)). Got a 0 w₁ w₁ (Whole n)) (sym k) (got-part w₁ n (got-given all 0 w w₁ q so n t).1))
+          got-then all 0 w w₁ q so (keep (edition_of sheet) e.kind) n t w₁ (Ok n)
+          (subst (λ (a : Answer (List ℕ)). Got a 0 w₁ w₁ (Ok n)) (sym k) (got-part w₁ n (got-given all 0 w w₁ q so n t).1))
 
-      pub column-other : false ≡ of_kind edition e.kind (part w₁ 0 n) → Got (read_column (column_of sheet e)) 0 w w₁ (Refused broken)
+      pub column-other : false ≡ of_kind edition e.kind (part w₁ 0 n) → Got (read_column (column_of sheet e)) 0 w w₁ (Err broken)
       unfolding read_column
       column-other y =
-          got-then all 0 w w₁ q so (keep (edition_of sheet) e.kind) n t w₁ (Refused broken)
+          got-then all 0 w w₁ q so (keep (edition_of sheet) e.kind) n t w₁ (Err broken)
           (got-refused (keep (edition_of sheet) e.kind (part w₁ 0 n)) 0 w₁ w₁ broken (rw (← known, ← y)) refl)
 
 -- a column that was read: its plan's reading, of the declared kind

@@ -1,4 +1,6 @@
 -- What reading a column of a sheet answers, over plain variables. Assumes only the laws of the codes.
+use Rattle.meaning.specs.declared.Refusal.{Refusal}
+use Rattle.std.specs.Prelude.{Result, Ok, Err}
 use Prim.Native.Nat.{ℕ, ◌+◌, ◌*◌, ◌≤◌, ◌<◌}
 use mathlib.Core.Path.{◌≡◌, sym, ap, ◌∙◌}
 use mathlib.Core.List.{List, ◌++◌}
@@ -11,10 +13,8 @@ use Rattle.meaning.specs.Answer.{Answer, given, refused, amount, filled}
 use Rattle.meaning.specs.Limits.{no_room, short_work}
 use Rattle.meaning.specs.Operations.{column, read_sheet}
 use Rattle.meaning.specs.Places.{part, Below, Got}
-use Rattle.meaning.specs.Says.{reading_says}
+use Rattle.meaning.specs.Says.{says}
 use Rattle.meaning.specs.Sheet.{Column, read_column}
-use Rattle.meaning.specs.declared.Reading.{Reading}
-use Rattle.meaning.specs.declared.Reading.TheVariants.{Whole, Refused}
 use Rattle.stages.proofs.Gots.{got-given, got-not}
 use Rattle.table.specs.Entries.{Opened}
 use Rattle.table.specs.declared.Entry.{Entry}
@@ -24,15 +24,15 @@ use Rattle.sheet.proofs.ReadColumns.{column-many}
 
 -- what a reading says and leaves in the output
 abbrev pub ReadSays : Answer (List ℕ) → List ℕ → List ℕ → Reading → Type 0
-ReadSays a out out' r = (reading_says r ≡ amount a) × (out' ≡ filled a out)
+ReadSays a out out' r = (says r ≡ amount a) × (out' ≡ filled a out)
 
 -- a refusal leaves the output as it was
-says-refused : (a : Answer (List ℕ)) (out : List ℕ) (z : ℕ) → a ≡ refused z → ReadSays a out out (Refused z)
+says-refused : (a : Answer (List ℕ)) (out : List ℕ) (z : ℕ) → a ≡ refused z → ReadSays a out out (Err z)
 says-refused a out z e = (ap amount (sym e), sym (ap (λ (b : Answer (List ℕ)). filled b out) e))
 
 -- n numbers were copied to its start
 says-whole : (a : Answer (List ℕ)) (w out out' : List ℕ) (n : ℕ) → a ≡ given (take n w) → length (take n w) ≡ n → n ≤ length out → out' ≡ sets out 0 (take n w)
-    → ReadSays a out out' (Whole n)
+    → ReadSays a out out' (Ok n)
 says-whole a w out out' n e many fits is =
     let xs = take n w in
     let put : sets out 0 xs ≡ xs ++ drop (length xs) out =
@@ -62,29 +62,29 @@ module _ (sheet : List ℕ) (k work room : ℕ) where
 -- ---- by the entry
 -- a column that is not there
 pub says_none : (sheet : List ℕ) (k : ℕ) (w out : List ℕ) {z : ℕ} → column sheet k ≡ refused z
-    → ReadSays (read_sheet sheet k (length w) (length out)) out out (Refused z)
+    → ReadSays (read_sheet sheet k (length w) (length out)) out out (Err z)
 says_none sheet k w out {z} e = says-refused (read_sheet sheet k (length w) (length out)) out z (read_none sheet k (length w) (length out) z e)
 
 module _ {sheet : List ℕ} {k : ℕ} {e : Entry} (o : Opened sheet k e) (w out : List ℕ) where
   abbrev answer : Answer (List ℕ)
   answer = read_sheet sheet k (length w) (length out)
 
-  pub says-short : length w < 7 * e.count → ReadSays answer out out (Refused short_work)
+  pub says-short : length w < 7 * e.count → ReadSays answer out out (Err short_work)
   says-short h = says-refused answer out short_work (read_short sheet k (length w) (length out) (column_of sheet e) (opened-column o) h)
 
   module _ (room : 7 * e.count ≤ length w) where
-    pub says-full : length out < e.count → ReadSays answer out out (Refused no_room)
+    pub says-full : length out < e.count → ReadSays answer out out (Err no_room)
     says-full h = says-refused answer out no_room (read-full sheet k (length w) (length out) (column_of sheet e) (opened-column o) room h)
 
-    module _ (fits : e.count ≤ length out) {w₁ : List ℕ} {q : Reading} (so : Got (read_column (column_of sheet e)) 0 w w₁ q) where
+    module _ (fits : e.count ≤ length out) {w₁ : List ℕ} {q : Result ℕ Refusal} (so : Got (read_column (column_of sheet e)) 0 w w₁ q) where
       is : answer ≡ read_column (column_of sheet e)
       is = read_all sheet k (length w) (length out) (column_of sheet e) (opened-column o) room fits
 
-      pub says-fault : {z : ℕ} → q ≡ Refused z → ReadSays answer out out (Refused z)
+      pub says-fault : {z : ℕ} → q ≡ Err z → ReadSays answer out out (Err z)
       says-fault {z} t = says-refused answer out z (is ∙ got-not (read_column (column_of sheet e)) 0 w w₁ q so z t)
 
       -- the numbers that stand in work are those that the entry counts
-      module _ {n : ℕ} (t : q ≡ Whole n) (bytes : Below 256 sheet) where
+      module _ {n : ℕ} (t : q ≡ Ok n) (bytes : Below 256 sheet) where
         got : (read_column (column_of sheet e) ≡ given (part w₁ 0 n)) × (length (part w₁ 0 n) ≡ n)
         got = got-given (read_column (column_of sheet e)) 0 w w₁ q so n t
 
@@ -94,5 +94,5 @@ module _ {sheet : List ℕ} {k : ℕ} {e : Entry} (o : Opened sheet k e) (w out 
         pub copy-room : (0 + n ≤ length w₁) × (n ≤ length out)
         copy-room = (omega (arith, got.1, length-take n w₁), omega (arith, counted))
 
-        pub says-copied : {out' : List ℕ} → out' ≡ sets out 0 (take n w₁) → ReadSays answer out out' (Whole n)
+        pub says-copied : {out' : List ℕ} → out' ≡ sets out 0 (take n w₁) → ReadSays answer out out' (Ok n)
         says-copied {out'} put = says-whole answer w₁ out out' n (is ∙ got.0) got.1 (omega (arith, counted)) put

@@ -1,4 +1,6 @@
 -- The listing of a sheet that passes, a column at a time, and its text by what the check answers. Assumes only the laws of the codes.
+use Rattle.meaning.specs.declared.Fault.{Fault}
+use Rattle.std.specs.Prelude.{Result, Ok, Err}
 use Prim.Native.Nat.{ℕ, ◌+◌, ◌≤◌, ◌<◌, ◌^◌}
 use mathlib.Core.Path.{◌≡◌, sym, ap, ◌∙◌}
 use mathlib.Core.List.{List, [], ◌∷◌}
@@ -8,11 +10,9 @@ use Rattle.meaning.specs.Answer.{Verdict, passed, blamed}
 use Rattle.meaning.specs.Limits.{most_columns}
 use Rattle.meaning.specs.Operations.{check}
 use Rattle.meaning.specs.Places.{Wrote}
-use Rattle.meaning.specs.Says.{checked_says}
+use Rattle.meaning.specs.Says.{verdict_says}
 use Rattle.meaning.specs.Sheet.{columns_of, column_at, column_count}
 use Rattle.meaning.specs.Texts.{text, digits, line, all_work, refused_or, counting, column_lines, listing_lines, listing_text}
-use Rattle.meaning.specs.declared.Checked.{Checked}
-use Rattle.meaning.specs.declared.Checked.TheVariants.{Passed, Refused}
 use Rattle.meaning.specs.declared.Offset.{Offset}
 use Rattle.table.specs.Offsets.{blank_column}
 use Rattle.table.proofs.Columns.{column-count}
@@ -83,17 +83,17 @@ sheet-lines sheet many p q r =
     wrote_after (wrote_as (ap (λ (j : ℕ). line (text "columns") (digits j ∷ [])) count) p) (wrote_after q r)
 
 -- ---- the text by what the check answers
-module _ (sheet work : List ℕ) (all : length work ≡ all_work) (r : Checked) (told : checked_says r ≡ check sheet (length work)) where
-  so : (v : Verdict) → checked_says r ≡ v → check sheet all_work ≡ v
+module _ (sheet work : List ℕ) (all : length work ≡ all_work) (r : Result (Unit {0}) Fault) (told : verdict_says r ≡ check sheet (length work)) where
+  so : (v : Verdict) → verdict_says r ≡ v → check sheet all_work ≡ v
   so v e = sym (ap (check sheet) all) ∙ sym told ∙ e
 
-  pub listing-passes : r ≡ Passed → check sheet all_work ≡ passed
-  listing-passes e = so passed (ap checked_says e)
+  pub listing-passes : r ≡ Ok → check sheet all_work ≡ passed
+  listing-passes e = so passed (ap verdict_says e)
 
-  pub listing-lines : r ≡ Passed → listing_lines (columns_of sheet) ≡ listing_text sheet
+  pub listing-lines : r ≡ Ok → listing_lines (columns_of sheet) ≡ listing_text sheet
   unfolding listing_text refused_or
   listing-lines e = ap (λ (v : Verdict). refused_or v (listing_lines (columns_of sheet))) (sym (listing-passes e))
 
-  pub listing-refused : {e k : ℕ} → r ≡ Refused e k → refused_or (blamed e k) [] ≡ listing_text sheet
+  pub listing-refused : {e k : ℕ} → r ≡ Err e k → refused_or (blamed e k) [] ≡ listing_text sheet
   unfolding listing_text refused_or
-  listing-refused e = ap (λ (v : Verdict). refused_or v (listing_lines (columns_of sheet))) (sym (so (blamed _ _) (ap checked_says e)))
+  listing-refused e = ap (λ (v : Verdict). refused_or v (listing_lines (columns_of sheet))) (sym (so (blamed _ _) (ap verdict_says e)))

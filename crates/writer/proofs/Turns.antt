@@ -1,4 +1,6 @@
 -- Orders in turn: what the loops know that have judged the plans, or asked the lists, below k. Assumes nothing.
+use Rattle.meaning.specs.declared.Refusal.{Refusal}
+use Rattle.std.specs.Prelude.{Result, Ok, Err}
 use Prim.Native.Nat.{ℕ, ◌+◌, ◌*◌, ◌≤◌, ◌<◌}
 use mathlib.Core.Path.{◌≡◌, refl, sym, ap, ap₂, ◌∙◌}
 use mathlib.Core.Bool.{Bool, true, false, not}
@@ -11,10 +13,8 @@ use Rattle.meaning.specs.Limits.{plan_bytes}
 use Rattle.meaning.specs.Lists.{all, sum}
 use Rattle.meaning.specs.Places.{part}
 use Rattle.meaning.specs.Plan.{judge_plan, plan_used}
-use Rattle.meaning.specs.Says.{judged_says}
+use Rattle.meaning.specs.Says.{says}
 use Rattle.meaning.specs.Sheet.{of_kind}
-use Rattle.meaning.specs.declared.Judged.{Judged}
-use Rattle.meaning.specs.declared.Judged.TheVariants as judged
 use Rattle.table.proofs.InTurn.{PassedBelow, below-turn, below-refuse, below_end}
 use Rattle.table.proofs.Lists.{HoldBelow, hold-turn, hold-fail, hold-end}
 use Rattle.writer.specs.Orders.{columns_by, blank_listed, list_start, list_judged, list_rises, verdict_told}
@@ -26,40 +26,40 @@ pub record JudgedBelow (kinds plans : List ℕ) (k : ℕ) : Type 0 where
   pub below : (counts numbers : List ℕ) → PassedBelow list_judged (columns_by kinds plans counts numbers) k
 
 abbrev pub JudgedAs : List ℕ → List ℕ → Judged → Type 0
-JudgedAs kinds plans r = (counts numbers : List ℕ) → judged_says r ≡ verdict_told (in_turn list_judged 0 (columns_by kinds plans counts numbers))
+JudgedAs kinds plans r = (counts numbers : List ℕ) → says r ≡ verdict_told (in_turn list_judged 0 (columns_by kinds plans counts numbers))
 
 pub judged-start : {kinds plans : List ℕ} → JudgedBelow kinds plans 0
 judged-start = record { below = λ counts numbers. refl }
 
 module _ {kinds plans : List ℕ} {k : ℕ} (so : JudgedBelow kinds plans k) where
-  pub judged-end : length kinds ≤ k → JudgedAs kinds plans judged.Passed
+  pub judged-end : length kinds ≤ k → JudgedAs kinds plans Ok
   judged-end h counts numbers =
       let ls = columns_by kinds plans counts numbers in
       ap verdict_told (sym (below_end list_judged ls k (so.below counts numbers) (omega (arith, column-count kinds plans counts numbers))))
 
   module _ (h : k < length kinds) {plan : List ℕ} (ep : plan ≡ plan_used (get_or kinds k 0) (part plans (plan_bytes * k) plan_bytes)) where
-    judged-here : (r : Judged) → judged_says r ≡ judge_plan (get_or kinds k 0) plan
-        → (counts numbers : List ℕ) → list_judged (get_or (columns_by kinds plans counts numbers) k blank_listed) ≡ judged_says r
+    judged-here : (r : Result (Unit {0}) Refusal) → says r ≡ judge_plan (get_or kinds k 0) plan
+        → (counts numbers : List ℕ) → list_judged (get_or (columns_by kinds plans counts numbers) k blank_listed) ≡ says r
     judged-here r is counts numbers =
         ap list_judged (column-is kinds plans counts numbers k h) ∙ ap (judge_plan (get_or kinds k 0)) (sym ep) ∙ sym is
 
     in-columns : (counts numbers : List ℕ) → k < length (columns_by kinds plans counts numbers)
     in-columns counts numbers = omega (arith, column-count kinds plans counts numbers)
 
-    pub judged-turn : {r : Judged} → judged_says r ≡ judge_plan (get_or kinds k 0) plan → r ≡ judged.Passed → JudgedBelow kinds plans (k + 1)
+    pub judged-turn : {r : Result (Unit {0}) Refusal} → says r ≡ judge_plan (get_or kinds k 0) plan → r ≡ Ok → JudgedBelow kinds plans (k + 1)
     judged-turn {r} is e =
         record {
           below = λ counts numbers.
               below-turn list_judged (columns_by kinds plans counts numbers) blank_listed k (so.below counts numbers) (in-columns counts numbers)
-              tt (judged-here r is counts numbers ∙ ap judged_says e);
+              tt (judged-here r is counts numbers ∙ ap says e);
         }
 
-    pub judged-refuse : {r : Judged} → judged_says r ≡ judge_plan (get_or kinds k 0) plan
-        → {z : ℕ} → r ≡ judged.Refused z → JudgedAs kinds plans (judged.Refused z)
+    pub judged-refuse : {r : Result (Unit {0}) Refusal} → says r ≡ judge_plan (get_or kinds k 0) plan
+        → {z : ℕ} → r ≡ Err z → JudgedAs kinds plans (Err z)
     judged-refuse {r} is {z} e counts numbers =
         ap verdict_told
         (sym (below-refuse list_judged (columns_by kinds plans counts numbers) blank_listed k (so.below counts numbers) (in-columns counts numbers)
-        z (judged-here r is counts numbers ∙ ap judged_says e)))
+        z (judged-here r is counts numbers ∙ ap says e)))
 
 -- ---- lists: those below k are of their kinds, and the next begins at `from`
 pub record RisingBelow (edition : ℕ) (kinds counts numbers : List ℕ) (from k : ℕ) : Type 0 where

@@ -1,4 +1,6 @@
 -- One possible answer: two answers and outputs that meet the contract of `write` are equal. Assumes nothing.
+use Rattle.meaning.specs.declared.Refusal.{Refusal}
+use Rattle.std.specs.Prelude.{Result}
 use Prim.Native.Nat.{ℕ}
 use mathlib.Core.Path.{◌≡◌, sym, ◌∙◌}
 use mathlib.Core.List.{List}
@@ -6,13 +8,12 @@ use lib.ListN.{length}
 use Rattle.meaning.specs.Answer.{amount}
 use Rattle.meaning.specs.Promises.{Fills}
 use Rattle.meaning.specs.Operations.{write_apart}
-use Rattle.meaning.specs.Says.{sized_says}
-use Rattle.meaning.specs.declared.Sized.{Sized}
+use Rattle.meaning.specs.Says.{says}
 use Rattle.judge.proofs.Unique.{one-sized}
 
-pub one-write : (edition : ℕ) (kinds plans counts numbers : List ℕ) (work : ℕ) (o o' o'' : List ℕ) (r r' : Sized)
-    → Fills (write_apart edition kinds plans counts numbers work (length o)) o (sized_says r) o'
-    → Fills (write_apart edition kinds plans counts numbers work (length o)) o (sized_says r') o''
+pub one-write : (edition : ℕ) (kinds plans counts numbers : List ℕ) (work : ℕ) (o o' o'' : List ℕ) (r r' : Result ℕ Refusal)
+    → Fills (write_apart edition kinds plans counts numbers work (length o)) o (says r) o'
+    → Fills (write_apart edition kinds plans counts numbers work (length o)) o (says r') o''
     → (r ≡ r') × (o' ≡ o'')
 one-write edition kinds plans counts numbers work o o' o'' r r' e f =
     (one-sized r r' (amount (write_apart edition kinds plans counts numbers work (length o))) e.0 f.0, e.1 ∙ sym f.1)

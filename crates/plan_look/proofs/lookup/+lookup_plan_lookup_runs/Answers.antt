@@ -3,9 +3,9 @@ use Prim.Native.Nat.{◌-◌}
 use mathlib.Core.Path.{sym, ◌∙◌}
 use native.Mathlib.Omega.{arith}
 use lib.ListN.{length}
-use Rattle.meaning.specs.Says.{found_says}
+use Rattle.meaning.specs.Says.{says}
 use Rattle.judge.proofs.PlanLaws.{at-bad, at_code, at-reference, at-differences, at-runs}
-use Rattle.codes.specs.Started.{total_says, run_says}
+use Rattle.codes.specs.Started.{run_told}
 use Rattle.stages.proofs.Headers.{headed, headless}
 use Rattle.stages.proofs.Parts.{part-short}
 use Rattle.plan_look.proofs.Lookups.{says_so, looked-part, look-bad, look-code, look-as, look-short}
@@ -53,25 +53,25 @@ pub lookup_plan-returns-in-Refused : goal.lookup_plan-returns-in-Refused
 lookup_plan-returns-in-Refused t c =
     let is = at-reference _ _ _ _ _ (sym c.stage_at.ensures ∙ c.in-Reference.is) in
     reference-refused _ _ _ _ _ is.0 _ c.if-body-lt4.false (c.long-m.ensures.0 ∙ c.word_at.ensures) _
-    (says_so found_says c.lookup_plan.ensures c.in-Refused.is)
+    (says_so says c.lookup_plan.ensures c.in-Refused.is)
 
 pub lookup_plan-returns-in-Number : goal.lookup_plan-returns-in-Number
 lookup_plan-returns-in-Number t c =
     let is = at-reference _ _ _ _ _ (sym c.stage_at.ensures ∙ c.in-Reference.is) in
     reference-sum _ _ _ _ _ is.0 _ c.if-body-lt4.false (c.long-m.ensures.0 ∙ c.word_at.ensures) _ _ _
-    (says_so found_says c.lookup_plan.ensures c.in-Number.is)
+    (says_so says c.lookup_plan.ensures c.in-Number.is)
     c.long.ensures.0 c.number_of.ensures
 
 pub lookup_plan-returns-in-Refused-total_plan : goal.lookup_plan-returns-in-Refused-total_plan
 lookup_plan-returns-in-Refused-total_plan t c =
     let is = at-differences _ _ _ _ _ (sym c.stage_at.ensures ∙ c.in-Differences.is) in
-    differences-refused _ _ _ _ _ is.0 _ _ _ (says_so total_says c.total_plan.ensures c.in-Refused-total_plan.is) c.taking_refusal-taking.ensures
+    differences-refused _ _ _ _ _ is.0 _ _ _ (says_so says c.total_plan.ensures c.in-Refused-total_plan.is) c.taking_refusal-taking.ensures
     c.first_refusal.ensures
 
 pub lookup_plan-returns-in-Sum : goal.lookup_plan-returns-in-Sum
 lookup_plan-returns-in-Sum t c =
     let is = at-differences _ _ _ _ _ (sym c.stage_at.ensures ∙ c.in-Differences.is) in
-    differences-sum _ _ _ _ _ is.0 _ _ (says_so total_says c.total_plan.ensures c.in-Sum.is) c.number_of-in-Sum.ensures
+    differences-sum _ _ _ _ _ is.0 _ _ (says_so says c.total_plan.ensures c.in-Sum.is) c.number_of-in-Sum.ensures
 
 pub lookup_plan-returns-in-Runs : goal.lookup_plan-returns-in-Runs
 lookup_plan-returns-in-Runs t c =
@@ -91,7 +91,7 @@ pub lookup_runs-lookup_plan-requires : goal.lookup_runs-lookup_plan-requires
 lookup_runs-lookup_plan-requires t c =
     let head = headed c.header_of.ensures c.in-Runs.is in
     let short = part-short c.args.body.now 8 (c.in-Runs.end.byte - 8) in
-    let place = says_so run_says c.find_run.ensures c.in-At.is in
+    let place = says_so says_by run_told c.find_run.ensures c.in-At.is in
     (omega (arith), (run-looked _ _ head place c.requires.0 short, omega (arith, c.requires.1)))
 
 pub lookup_runs-returns-in-Refused : goal.lookup_runs-returns-in-Refused
@@ -100,12 +100,12 @@ lookup_runs-returns-in-Refused t c = header_refused _ _ _ _ _ _ _ (headless c.he
 pub lookup_runs-returns-in-Refused-find_run : goal.lookup_runs-returns-in-Refused-find_run
 lookup_runs-returns-in-Refused-find_run t c =
     let head = headed c.header_of.ensures c.in-Runs.is in
-    run-refused _ _ _ _ _ _ _ _ c.plan_end-second.ensures head _ (says_so run_says c.find_run.ensures c.in-Refused-find_run.is)
+    run-refused _ _ _ _ _ _ _ _ c.plan_end-second.ensures head _ (says_so says_by run_told c.find_run.ensures c.in-Refused-find_run.is)
 
 pub lookup_runs-returns-in-At : goal.lookup_runs-returns-in-At
 lookup_runs-returns-in-At t c =
     let head = headed c.header_of.ensures c.in-Runs.is in
-    run-found _ _ _ _ _ _ _ _ c.plan_end-second.ensures head _ (says_so run_says c.find_run.ensures c.in-At.is) _
+    run-found _ _ _ _ _ _ _ _ c.plan_end-second.ensures head _ (says_so says_by run_told c.find_run.ensures c.in-At.is) _
     c.lookup_plan.ensures
 
 pub lookup_runs-slice_bounds-find_run-count : goal.lookup_runs-slice_bounds-find_run-count

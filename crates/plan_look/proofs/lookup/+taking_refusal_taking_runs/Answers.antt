@@ -5,7 +5,7 @@ use native.Mathlib.Omega.{arith}
 use lib.ListN.{length}
 use Rattle.meaning.specs.Answer.{number}
 use Rattle.judge.proofs.PlanLaws.{at-bad, at_code, at-reference, at-differences, at-runs}
-use Rattle.codes.specs.Started.{run_says}
+use Rattle.codes.specs.Started.{run_told}
 use Rattle.stages.proofs.Headers.{headed, headless}
 use Rattle.stages.proofs.Parts.{part-short}
 use Rattle.plan_look.proofs.Lookups.{says_so, looked-part, run-looked}
@@ -67,7 +67,7 @@ pub taking_runs-taking_refusal-requires : goal.taking_runs-taking_refusal-requir
 taking_runs-taking_refusal-requires t c =
     let head = headed c.header_of.ensures c.in-Runs.is in
     let short = part-short c.args.body.now 8 (c.in-Runs.end.byte - 8) in
-    let place = says_so run_says c.find_run.ensures c.in-At.is in
+    let place = says_so says_by run_told c.find_run.ensures c.in-At.is in
     (omega (arith), (run-looked _ _ head place c.requires.0 short, omega (arith, c.requires.1)))
 
 pub taking_runs-returns-in-Refused : goal.taking_runs-returns-in-Refused
@@ -76,12 +76,12 @@ taking_runs-returns-in-Refused t c = taking-headless _ _ _ _ _ _ _ (headless c.h
 pub taking_runs-returns-in-Refused-find_run : goal.taking_runs-returns-in-Refused-find_run
 taking_runs-returns-in-Refused-find_run t c =
     let head = headed c.header_of.ensures c.in-Runs.is in
-    taking-no-run _ _ _ _ _ _ _ _ c.plan_end-after.ensures head _ (says_so run_says c.find_run.ensures c.in-Refused-find_run.is)
+    taking-no-run _ _ _ _ _ _ _ _ c.plan_end-after.ensures head _ (says_so says_by run_told c.find_run.ensures c.in-Refused-find_run.is)
 
 pub taking_runs-returns-in-At : goal.taking_runs-returns-in-At
 taking_runs-returns-in-At t c =
     let head = headed c.header_of.ensures c.in-Runs.is in
-    taking-run _ _ _ _ _ _ _ _ c.plan_end-after.ensures head _ (says_so run_says c.find_run.ensures c.in-At.is) _
+    taking-run _ _ _ _ _ _ _ _ c.plan_end-after.ensures head _ (says_so says_by run_told c.find_run.ensures c.in-At.is) _
     c.taking_refusal.ensures
 
 pub taking_runs-slice_bounds-find_run-count : goal.taking_runs-slice_bounds-find_run-count
