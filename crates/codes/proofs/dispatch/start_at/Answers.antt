@@ -17,28 +17,15 @@ count-is : (n : ℕ) → n / 4 + (n % 4 + 3) / 4 ≡ group_count n
 unfolding group_count
 count-is n = omega arith
 
--- code 8's refusal is handed on: 0 where its parts fit
-parts_cut : (fit : Bool) (r : ℕ) → r ≡ cond fit 0 cut_short → (r ≡ 0 → ⊥) → refused r ≡ need fit cut_short (given (at_bit 0))
-parts_cut true r e h = absurd (h e)
-parts_cut false r e h = ap (λ (z : ℕ). refused z) e
-
-parts_whole : (fit : Bool) (r : ℕ) → r ≡ cond fit 0 cut_short → r ≡ 0 → given (at_bit 0) ≡ need fit cut_short (given (at_bit 0))
-parts_whole true r e h = refl
-parts_whole false r e h = absurd (omega arith)
-
 pub returns-then-body-controls : goal.returns-then-body-controls
 returns-then-body-controls c = rw (code-4 c.args.code c.if-code-eq4.true, ← (count-is c.args.n), lt-leb _ _ c.if-body-controls.true)
 
 pub returns-then-code-eq4 : goal.returns-then-code-eq4
 returns-then-code-eq4 c = rw (code-4 c.args.code c.if-code-eq4.true, ← (count-is c.args.n), le-leb _ _ c.if-body-controls.false)
 
-pub returns-then-refusal-ne0 : goal.returns-then-refusal-ne0
-returns-then-refusal-ne0 c =
-    rw (code-8 c.args.code c.if-code-eq8.true) (parts_cut (parts_fit c.args.body.now) _ c.parts_refusal-refusal.ensures c.if-refusal-ne0.true)
-
-pub returns-then-code-eq8 : goal.returns-then-code-eq8
-returns-then-code-eq8 c =
-    rw (code-8 c.args.code c.if-code-eq8.true) (parts_whole (parts_fit c.args.body.now) _ c.parts_refusal-refusal.ensures c.if-refusal-ne0.false)
+pub returns-then-not-parts_fit : goal.returns-then-not-parts_fit
+returns-then-not-parts_fit c =
+    rw (code-8 c.args.code c.if-code-eq8.true, sym c.parts_fit.ensures ∙ not-true _ (ap not c.if-not-parts_fit.true))
 
 pub returns : goal.returns
 returns c = sym (start-other c.args.code c.args.body.now c.args.n c.if-code-eq4.false c.if-code-eq8.false)

@@ -7,23 +7,23 @@ pub returns-in-1 : goal.returns-in-1
 returns-in-1 c = rw (code-1 _ c.in-1.is) c.take.ensures
 
 pub returns-in-2 : goal.returns-in-2
-returns-in-2 c = rw (code-2 _ c.in-2.is) c.take_groups.ensures
+returns-in-2 c = rw (code-2 _ c.in-2.is) c.take-in-2.ensures
 
 pub returns-in-3 : goal.returns-in-3
 returns-in-3 c = rw (code-3 _ c.in-3.is) c.take-in-3.ensures
 
 pub returns-in-4 : goal.returns-in-4
-returns-in-4 c = rw (code-4 _ c.in-4.is) c.take_stream.ensures
+returns-in-4 c = rw (code-4 _ c.in-4.is) c.take-in-4.ensures
 
 pub returns-in-5 : goal.returns-in-5
-returns-in-5 c = rw (code-5 _ c.in-5.is) c.take_gamma.ensures
+returns-in-5 c = rw (code-5 _ c.in-5.is) c.take-in-5.ensures
 
 pub returns-in-6 : goal.returns-in-6
-returns-in-6 c = rw (code-6 _ c.in-6.is) c.take_delta.ensures
+returns-in-6 c = rw (code-6 _ c.in-6.is) c.take-in-6.ensures
 
 pub returns-in-8 : goal.returns-in-8
 returns-in-8 c = rw (code-8 _ c.in-8.is) c.take-in-8.ensures
 
 pub returns-in_default : goal.returns-in_default
 returns-in_default c =
-    rw (code-7 c.args.code (omega arith) (omega arith) (omega arith) (omega arith) (omega arith) (omega arith) (omega arith)) c.take_batches.ensures
+    rw (code-7 c.args.code (omega arith) (omega arith) (omega arith) (omega arith) (omega arith) (omega arith) (omega arith)) c.take-in_default.ensures

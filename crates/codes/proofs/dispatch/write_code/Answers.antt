@@ -6,19 +6,19 @@ pub returns-in-1 : goal.returns-in-1
 returns-in-1 c = rw (code-1 _ c.in-1.is) c.write.ensures
 
 pub returns-in-2 : goal.returns-in-2
-returns-in-2 c = rw (code-2 _ c.in-2.is) c.write_groups.ensures
+returns-in-2 c = rw (code-2 _ c.in-2.is) c.write-in-2.ensures
 
 pub returns-in-3 : goal.returns-in-3
 returns-in-3 c = rw (code-3 _ c.in-3.is) c.write-in-3.ensures
 
 pub returns-in-4 : goal.returns-in-4
-returns-in-4 c = rw (code-4 _ c.in-4.is) c.write_stream.ensures
+returns-in-4 c = rw (code-4 _ c.in-4.is) c.write-in-4.ensures
 
 pub returns-in-5 : goal.returns-in-5
-returns-in-5 c = rw (code-5 _ c.in-5.is) c.write_gamma.ensures
+returns-in-5 c = rw (code-5 _ c.in-5.is) c.write-in-5.ensures
 
 pub returns-in-6 : goal.returns-in-6
-returns-in-6 c = rw (code-6 _ c.in-6.is) c.write_delta.ensures
+returns-in-6 c = rw (code-6 _ c.in-6.is) c.write-in-6.ensures
 
 pub returns-in-8 : goal.returns-in-8
 returns-in-8 c = rw (code-8 _ c.in-8.is) c.write-in-8.ensures
@@ -26,4 +26,4 @@ returns-in-8 c = rw (code-8 _ c.in-8.is) c.write-in-8.ensures
 pub returns-in_default : goal.returns-in_default
 returns-in_default c =
     rw (code-7 c.args.code (omega arith) (omega arith) (omega arith) (omega arith) (omega arith) (omega arith) (omega arith))
-    c.write_batches.ensures
+    c.write-in_default.ensures
