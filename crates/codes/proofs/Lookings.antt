@@ -23,7 +23,6 @@ use Rattle.meaning.proofs.Tests.{by_order}
 use Rattle.stages.proofs.Parts.{stored-get}
 use Rattle.codes.specs.Firsts.{Firsts}
 use Rattle.codes.specs.Goes.{Passed, Goes}
-use Rattle.codes.specs.Started.{says, start_refusal}
 use Rattle.codes.specs.declared.First.{First}
 use Rattle.codes.proofs.Numbered.{laws}
 use Rattle.codes.proofs.Stretches.{goes-refused}

@@ -1,20 +1,23 @@
 -- Which code a number is, and that each code is lawful. Assumes nothing.
-use Prim.Native.Nat.{ℕ}
+use Prim.Native.Nat.{ℕ, ◌<◌}
 use mathlib.Core.Path.{◌≡◌, refl, sym, ap, ◌∙◌}
 use mathlib.Core.Bool.{Bool, true, false, cond}
 use mathlib.Core.List.{List}
 use native.Mathlib.Omega.{arith}
 use lib.Dec.{eqb}
+use lib.ListN.{length}
 use borrow.Author.Tests.{ne_eqb, eq-eqb, eqb-true}
 use Rattle.meaning.specs.Answer.{given}
 use Rattle.meaning.specs.Codes.{code_of, code_vbyte, code_groups, code_g8iu, code_stream, code_gamma, code_delta, code_batches, code_direct}
 use Rattle.meaning.specs.Codes.{Way, by_units, directly, look_code}
 use Rattle.meaning.specs.Direct.{look_direct}
+use Rattle.meaning.specs.Elias.{done_elias}
 use Rattle.meaning.specs.Places.{Spare}
 use Rattle.meaning.specs.Positions.{at_byte}
+use Rattle.meaning.specs.declared.Position.{Position}
 use Rattle.meaning.proofs.Codes.{by_number, by_code, spare-always}
 use Rattle.meaning.proofs.Lawful.{Lawful}
-use Rattle.meaning.proofs.Tests.{by-test}
+use Rattle.meaning.proofs.Tests.{by-test, by_order}
 use Rattle.vbyte.proofs.Laws.{lawful as vbyte}
 use Rattle.groups.proofs.Laws.{lawful-groups, lawful-stream, lawful-batches}
 use Rattle.g8iu.proofs.Laws.{lawful as g8iu}
@@ -71,6 +74,16 @@ module _ (c : ℕ) where
   spare-other before h =
       let none = spare-always before in
       by_number (λ d. Spare d.joins before 0) c (λ e. none) (λ e. none) (λ e. absurd (h e)) (λ e. none) (λ e. none) (λ e. none) none (λ e. none)
+
+  -- the codes of Elias end with spare bits, and every other but Stream VByte and the directly addressed list with its last byte
+  pub done-elias : (body : List ℕ) (p : Position) → 4 < c → c < 7 → (code_of c).done body p ≡ done_elias body p
+  done-elias body p l h = by_order c 6 (λ a. rw (code-5 (omega arith))) (λ b. rw (code-6 (omega arith)))
+
+  pub done-other : (body : List ℕ) (p : Position) → (c ≡ 4 → ⊥) → (c ≡ 5 → ⊥) → (c ≡ 6 → ⊥) → (c ≡ 8 → ⊥)
+      → eqb p.head.byte (length body) ≡ (code_of c).done body p
+  done-other body p h i j k =
+      by_number (λ d. eqb p.head.byte (length body) ≡ d.done body p) c (λ e. refl) (λ e. refl) (λ e. refl) (λ e. absurd (h e)) (λ e. absurd (i e))
+      (λ e. absurd (j e)) refl (λ e. absurd (k e))
 
 -- ---- how a number is looked up
 module _ (c : ℕ) where

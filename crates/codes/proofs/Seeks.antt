@@ -1,11 +1,12 @@
 -- A run sought by the lengths that a code holds, stretch by stretch. Assumes nothing.
 use Prim.Native.Nat.{ℕ, ◌+◌, ◌-◌, ◌≤◌, ◌<◌}
-use mathlib.Core.Path.{◌≡◌, ap, ◌∙◌}
+use mathlib.Core.Path.{◌≡◌, sym, ap, ◌∙◌}
 use mathlib.Core.List.{List}
 use native.Mathlib.Nat.{sub-zero}
 use native.Mathlib.Omega.{arith}
 use Rattle.std.specs.Prelude.{Result, Ok, Err, Some, None}
-use lib.ListN.{length}
+use lib.ListN.{length, get_or, take}
+use lib.Seq.{length-take-le, get_or-take}
 use Rattle.meaning.specs.Answer.{given, refused}
 use Rattle.meaning.specs.Codes.{code_of, look_code}
 use Rattle.meaning.specs.Limits.{broken}
@@ -20,6 +21,7 @@ use Rattle.stages.specs.Seeks.{sought_from, Seeks}
 use Rattle.stages.specs.declared.Sought.{Sought}
 use Rattle.stages.proofs.Seeks.{seek-none, seek-stops}
 use Rattle.codes.proofs.Lookings.{Looking, refuses, passes, looking-on, front}
+use Rattle.codes.proofs.Stretches.{passed-long}
 use Rattle.stages.specs.declared.Sought.TheVariants as sought
 
 -- ---- by stretches of a code's numbers: the first `passed` of so many runs have been passed, which end after `done` numbers of n
@@ -47,27 +49,35 @@ module _ {code : ℕ} {body : List ℕ} {runs n place passed : ℕ} {p : Positio
 
   module _ {room : ℕ} {w w' : List ℕ} {t : Taken} (g : Passed (code_of code) body (runs - passed) p room 0 w w' t) (fits : room ≤ length w)
       (all : t.count ≤ room)
-      {r : Sought} (s : Seeks w' t.count n place done r) where
+      {r : Result Sought Refusal} (s : Seeks (take t.count w') n place done r) where
+    size : length (take t.count w') ≡ t.count
+    size = length-take-le t.count w' (omega (arith, passed-long g))
+
     on-sought : seek (look_code (code_of code) body runs) n place runs 0 0 ≡ sought_from (look_code (code_of code) body runs) n place (runs - passed) passed
         t.count r
     on-sought =
         o.so
-        ∙ s.told (look_code (code_of code) body runs) (runs - passed) passed (λ i h. front o.looking g fits i h (omega arith))
-        (omega (arith, passes o.looking g o.most))
+        ∙ s.told (look_code (code_of code) body runs) (runs - passed) passed
+        (λ i h. let b : i < t.count = omega (arith, size) in
+        front o.looking g fits i b (omega arith) ∙ ap (λ (x : ℕ). given x) (sym (get_or-take t.count w' i 0 b)))
+        (omega (arith, size, passes o.looking g o.most))
+        ∙ ap (λ (k : ℕ). sought_from (look_code (code_of code) body runs) n place (runs - passed) passed k r) size
 
-    pub on-found : {j : Place} → r ≡ sought.At j → seek (look_code (code_of code) body runs) n place runs 0 0 ≡ given (passed + j.number)
+    pub on-found : {j : Place} → r ≡ Ok (sought.At j) → seek (look_code (code_of code) body runs) n place runs 0 0 ≡ given (passed + j.number)
     on-found e = on-sought ∙ ap (sought_from (look_code (code_of code) body runs) n place (runs - passed) passed t.count) e
 
-    pub on-few : {j : Place} → r ≡ sought.At j → j.number < t.count
-    on-few e = rw e at s.within
+    pub on-few : {j : Place} → r ≡ Ok (sought.At j) → j.number < t.count
+    on-few {j} e = let h : j.number < length (take t.count w') = rw e at s.within in omega (arith, size)
 
-    pub on-fault : {e : ℕ} → r ≡ sought.Refused e → seek (look_code (code_of code) body runs) n place runs 0 0 ≡ refused e
+    pub on-fault : {e : Refusal} → r ≡ Err e → seek (look_code (code_of code) body runs) n place runs 0 0 ≡ refused (refusal_number e)
     on-fault e = on-sought ∙ ap (sought_from (look_code (code_of code) body runs) n place (runs - passed) passed t.count) e
 
-    pub on-within : {d : Place} → r ≡ sought.After d → (d.number ≤ n) × (done + t.count ≤ d.number) × (done ≤ place → d.number ≤ place)
-    on-within e = rw e at s.within
+    pub on-within : {d : Place} → r ≡ Ok (sought.After d) → (d.number ≤ n) × (done + t.count ≤ d.number) × (done ≤ place → d.number ≤ place)
+    on-within {d} e =
+        let (a, b, f) : (d.number ≤ n) × (done + length (take t.count w') ≤ d.number) × (done ≤ place → d.number ≤ place) = rw e at s.within in
+        (a, omega (arith, size), f)
 
-    pub on-next : {d : Place} → r ≡ sought.After d → SeekingOn code body runs n place (passed + t.count) t.next d.number
+    pub on-next : {d : Place} → r ≡ Ok (sought.After d) → SeekingOn code body runs n place (passed + t.count) t.next d.number
     on-next {d} e =
         let m : runs - passed - t.count ≡ runs - (passed + t.count) = omega arith in
         record {

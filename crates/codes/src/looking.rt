@@ -134,7 +134,13 @@ pub fn firsts_code(
 }
 
 // The run that holds a place of n, by the lengths of so many runs.
-pub fn seek_code(code: u8, body: &[u8], runs: usize, n: usize, place: Place) -> Result<Place, Refusal>
+pub fn seek_code(
+    code: u8,
+    body: &[u8],
+    runs: usize,
+    n: usize,
+    place: Place,
+) -> Result<Place, Refusal>
     requires { (Looked body.now n place.number) × (runs ≤ n) }
     ensures { says_by run_told result ≡ seek (look_code (code_of code) body.now runs) n place.number runs 0 0 }
 {
@@ -154,7 +160,8 @@ pub fn seek_code(code: u8, body: &[u8], runs: usize, n: usize, place: Place) -> 
         // Each run holds a number at least, so no more lengths are needed than places are left; a unit's are.
         let room = 32usize.min(goal - done.number + 16);
         let taken = stretch(code, body, runs - passed, at, &mut lengths, start, room)?;
-        match seek_in(&lengths[..taken.count], n, place, done)? {
+        let sought = seek_in(&lengths[..taken.count], n, place, done)?;
+        match sought {
             Sought::At(j) => {
                 let run = passed + j.number;
                 return Ok(Place { number: run });

@@ -8,7 +8,13 @@ use meaning::{Place, Refusal};
 use words::byte_length;
 
 // Reads n numbers strictly into work from a place on: no unit's first number fits into what the unit before left spare, and nothing is left over.
-pub fn read_code(code: u8, body: &[u8], n: usize, work: &mut [u32], from: Place) -> Result<usize, Refusal>
+pub fn read_code(
+    code: u8,
+    body: &[u8],
+    n: usize,
+    work: &mut [u32],
+    from: Place,
+) -> Result<usize, Refusal>
     requires { Target body.now work.old from.number n }
     ensures { Got (read_code (code_of code) body.now n) from.number work.old work.new result }
 {

@@ -1,9 +1,9 @@
 -- Stream VByte begins behind its control bytes, every other code with the body; code 8 asks that its parts fit. Assumes nothing.
 use Prim.Native.Nat.{ℕ, ◌+◌, ◌/◌, ◌%◌}
-use mathlib.Core.Path.{◌≡◌, refl, sym, ap}
-use mathlib.Core.Bool.{Bool, true, false, cond}
+use mathlib.Core.Path.{◌≡◌, sym, ap, ◌∙◌}
+use mathlib.Core.Bool.{not}
 use native.Mathlib.Omega.{arith}
-use borrow.Author.Tests.{lt-leb, le-leb}
+use borrow.Author.Tests.{lt-leb, le-leb, not-true, not-false}
 use Rattle.meaning.specs.Answer.{given, refused, need}
 use Rattle.meaning.specs.Direct.{parts_fit}
 use Rattle.meaning.specs.Groups.{group_count}
@@ -27,5 +27,9 @@ pub returns-then-not-parts_fit : goal.returns-then-not-parts_fit
 returns-then-not-parts_fit c =
     rw (code-8 c.args.code c.if-code-eq8.true, sym c.parts_fit.ensures ∙ not-true _ (ap not c.if-not-parts_fit.true))
 
-pub returns : goal.returns
-returns c = sym (start-other c.args.code c.args.body.now c.args.n c.if-code-eq4.false c.if-code-eq8.false)
+pub returns-else-not-parts_fit : goal.returns-else-not-parts_fit
+returns-else-not-parts_fit c =
+    rw (code-8 c.args.code c.if-code-eq8.true, sym c.parts_fit.ensures ∙ not-false _ (ap not c.if-not-parts_fit.false))
+
+pub returns-else-code-eq8 : goal.returns-else-code-eq8
+returns-else-code-eq8 c = sym (start-other c.args.code c.args.body.now c.args.n c.if-code-eq4.false c.if-code-eq8.false)

@@ -20,20 +20,18 @@ returns-then-k-eq0 c =
     let e = c.if-k-eq0.true in
     rw e (firsts-all laid_none refl)
 
-pub returns-in_default : goal.returns-in_default
-returns-in_default c =
+pub returns-in-Err : goal.returns-in-Err
+returns-in-Err c =
     let a = c.args in
     let units = way-units a.code (sym c.is_direct.ensures ∙ c.if-is_direct.false) in
-    firsts-stop laid_none (omega (arith, c.if-k-eq0.false))
-    (start-refuses a.code a.body.now a.n units c.start_at-started.ensures c.in_default.is 0 ∙ ap (λ (e : ℕ). refused e)
-    (sym c.start_refusal.ensures))
+    firsts-stop laid_none (omega (arith, c.if-k-eq0.false)) (start-refuses a.code a.body.now a.n units c.start_at.ensures c.in-Err.is 0)
 
 pub loop-passed-init : goal.loop-passed-init
 loop-passed-init c =
     let a = c.args in
     let units = way-units a.code (sym c.is_direct.ensures ∙ c.if-is_direct.false) in (
-      λ h. looking-start a.code a.body.now a.n units c.start_at-started.ensures (λ i. (c.type_inv.body i).fits) c.requires.short
-          c.in-At.is,
+      λ h. looking-start a.code a.body.now a.n units c.start_at.ensures (λ i. (c.type_inv.body i).fits) c.requires.short
+          c.in-Ok.is,
       laid_none,
       omega arith,
       c.requires,
@@ -55,35 +53,34 @@ stretch-went-requires c =
     let l = looking c.loop-passed-test.true in
     (record { inside = omega (arith, laid.long, space.room); short = l.short }, omega (arith, space.inside, c.loop-passed-test.true))
 
-pub returns-in_default-went : goal.returns-in_default-went
-returns-in_default-went c =
+pub returns-in-Err-went : goal.returns-in-Err-went
+returns-in-Err-went c =
     let (looking, laid, most, space) = c.loop-passed.invariant in
     let l = looking c.loop-passed-test.true in
-    let (stops, same) = goes-refused c.stretch-went.ensures c.in_default-went.is in
+    let (stops, same) = goes-refused c.stretch-went.ensures c.in-Err-went.is in
     rw same
     (firsts-stop laid c.loop-passed-test.true
-    (refuses l c.stretch-went.ensures c.in_default-went.is _ (omega arith) (omega (arith, space.inside, c.loop-passed-test.true))
-    ∙ ap (λ (e : ℕ). refused e) (sym c.went_refusal.ensures)))
+    (refuses l c.stretch-went.ensures c.in-Err-went.is _ (omega arith) (omega (arith, space.inside, c.loop-passed-test.true))))
 
 pub overflow_add-passed : goal.overflow_add-passed
 overflow_add-passed c =
     let (looking, laid, most, space) = c.loop-passed.invariant in
     let l = looking c.loop-passed-test.true in
-    omega (arith, c.lesser-passed.ensures, space.room)
+    omega (arith, c.min-passed.ensures, space.room)
 
 pub loop-passed-smaller : goal.loop-passed-smaller
 loop-passed-smaller c =
-    let g = goes_on c.stretch-went.ensures c.in-On.is in
-    omega (arith, c.lesser-passed.ensures, g.some, c.loop-passed-test.true)
+    let g = goes_on c.stretch-went.ensures c.in-Ok-went.is in
+    omega (arith, c.min-passed.ensures, g.some, c.loop-passed-test.true)
 
 pub loop-passed-preserved : goal.loop-passed-preserved
 loop-passed-preserved c =
     let (looking, laid, most, space) = c.loop-passed.invariant in
     let l = looking c.loop-passed-test.true in
-    let g = goes_on c.stretch-went.ensures c.in-On.is in (
-      λ h. let all : c.lesser-passed.result ≡ c.in-On.taken.count = omega (arith, c.lesser-passed.ensures, h) in rw all (looking-on l g),
-      laid-went laid space.room most g c.lesser-passed.ensures (those l g),
-      omega (arith, c.lesser-passed.ensures),
+    let g = goes_on c.stretch-went.ensures c.in-Ok-went.is in (
+      λ h. let all : c.min-passed.result ≡ c.in-Ok-went.taken.count = omega (arith, c.min-passed.ensures, h) in rw all (looking-on l g),
+      laid-went laid space.room most g c.min-passed.ensures (those l g),
+      omega (arith, c.min-passed.ensures),
       space,
     )
 

@@ -2,7 +2,7 @@
 use Prim.Native.Nat.{ℕ}
 use mathlib.Core.Path.{◌≡◌, sym, ap, ◌∙◌}
 use native.Mathlib.Omega.{arith}
-use lib.ListN.{length}
+use lib.ListN.{length, length-take}
 use Rattle.std.proofs.lemmas.Result.{err_from_is_err_and}
 use Rattle.meaning.specs.Answer.{refused}
 use Rattle.meaning.specs.Limits.{unit_places}
@@ -25,7 +25,14 @@ lay-requires c =
     (omega arith, omega (arith, c.requires.0.inside))
 
 pub spare_after-spare-requires : goal.spare_after-spare-requires
-spare_after-spare-requires c = ?
+spare_after-spare-requires c =
+    omega (arith, c.unit_at.ensures.few _ c.in_ok-read.was, length-take c.in_ok-read.read.count c.in_ok-read.read.numbers)
 
 pub returns : goal.returns
-returns c = ?
+returns c = λ before t.
+    let whole : length c.in_ok-read.read.numbers ≡ unit_places = search rules in
+    record {
+      says =
+          passed-one (laws c.args.code) (λ i. (c.type_inv.body i).fits) c.requires.1 c.unit_at.ensures c.in_ok-read.was whole c.min.ensures
+          (kept-none t c.if-plain-gt0.false) c.lay.ensures c.spare_after-spare.ensures;
+    }
