@@ -1,5 +1,7 @@
 -- The steps of reading by a plan, over plain lists and numbers: each takes what the callees ensure to what the function ensures. Assumes nothing.
+use Rattle.meaning.specs.Says.{refusal_number}
 use Rattle.meaning.specs.declared.Refusal.{Refusal}
+use Rattle.meaning.specs.declared.Refusal.TheVariants.{CutShort, Broken}
 use Rattle.std.specs.Prelude.{Result, Ok, Err}
 use Prim.Native.Nat.{ℕ, ◌+◌, ◌-◌, ◌*◌, ◌≤◌, ◌<◌}
 use mathlib.Core.Path.{◌≡◌, refl, sym, ap, ◌∙◌, subst}
@@ -10,7 +12,6 @@ use borrow.Author.Tests.{le-leb, lt-leb}
 use Rattle.meaning.specs.Answer.{Answer, bind}
 use Rattle.meaning.specs.Bytes.{word_at}
 use Rattle.meaning.specs.Codes.{code_of, read_code}
-use Rattle.meaning.specs.Limits.{cut_short, broken}
 use Rattle.meaning.specs.Places.{Below, part, Got}
 use Rattle.meaning.specs.Plan.{Plan, bad, code, reference, differences, runs, plan_at, plan_size}
 use Rattle.meaning.specs.Stages.{raised, summed, unrolled, read}
@@ -33,9 +34,9 @@ whole_is laws p body n from w w₁ q k b s e =
 
 -- ---- stages
 module _ (p : Plan) (body : List ℕ) (n from : ℕ) where
-  pub step-bad : (w : List ℕ) → p ≡ bad → Got (read p body n) from w w (Err broken)
+  pub step-bad : (w : List ℕ) → p ≡ bad → Got (read p body n) from w w (Err Broken)
   unfolding read
-  step-bad w e = got-refused _ from w w broken (rw e) refl
+  step-bad w e = got-refused _ from w w Broken (rw e) refl
 
   pub step-code : (c : ℕ) (w w' : List ℕ) (r : Result ℕ Refusal) → p ≡ code c → Got (read_code (code_of c) body n) from w w' r → Got (read p body n) from w w' r
   unfolding read
@@ -45,16 +46,16 @@ module _ (p : Plan) (body : List ℕ) (n from : ℕ) where
   step-as q w w' r e s = got-as _ _ from w w' r (ap (λ (x : Plan). read x body n) e) s
 
   module _ (q : Plan) (e : p ≡ reference q) where
-    pub step-reference-short : (w : List ℕ) → length body < 4 → Got (read p body n) from w w (Err cut_short)
+    pub step-reference-short : (w : List ℕ) → length body < 4 → Got (read p body n) from w w (Err CutShort)
     unfolding read
-    step-reference-short w h = got-refused _ from w w cut_short (rw (e, lt-leb 4 (length body) h)) refl
+    step-reference-short w h = got-refused _ from w w CutShort (rw (e, lt-leb 4 (length body) h)) refl
 
     reference-is : 4 ≤ length body → read p body n ≡ bind (read q (take (length body - 4) (drop 4 body)) n) (raised (word_at body 0))
     unfolding read
     reference-is h = rw (e, le-leb 4 (length body) h, to_the_end body 4)
 
     module _ (w w₁ : List ℕ) (o : Result ℕ Refusal) (h : 4 ≤ length body) (s : Got (read q (take (length body - 4) (drop 4 body)) n) from w w₁ o) where
-      pub step-reference-stop : (z : ℕ) → o ≡ Err z → Got (read p body n) from w w₁ (Err z)
+      pub step-reference-stop : (z : Refusal) → o ≡ Err z → Got (read p body n) from w w₁ (Err z)
       step-reference-stop z f = got-as _ _ from w w₁ (Err z) (reference-is h) (got-stop _ from w w₁ o s (raised (word_at body 0)) z f)
 
       pub step-reference : (k m : ℕ) (w₂ : List ℕ) (r : Result ℕ Refusal) → o ≡ Ok k → k ≡ n → m ≡ word_at body 0
@@ -68,7 +69,7 @@ module _ (p : Plan) (body : List ℕ) (n from : ℕ) where
     unfolding read
     differences-is = rw e
 
-    pub step-differences-stop : (z : ℕ) → o ≡ Err z → Got (read p body n) from w w₁ (Err z)
+    pub step-differences-stop : (z : Refusal) → o ≡ Err z → Got (read p body n) from w w₁ (Err z)
     step-differences-stop z f = got-as _ _ from w w₁ (Err z) differences-is (got-stop _ from w w₁ o s summed z f)
 
     pub step-differences : (k : ℕ) (w₂ : List ℕ) (r : Result ℕ Refusal) → o ≡ Ok k → k ≡ n
@@ -78,7 +79,7 @@ module _ (p : Plan) (body : List ℕ) (n from : ℕ) where
 
 -- ---- runs
 module _ (p q : Plan) (body : List ℕ) (n from : ℕ) where
-  pub runs_none : {z : ℕ} (w : List ℕ) → Headless n body z → Got (read (runs p q) body n) from w w (Err z)
+  pub runs_none : {z : Refusal} (w : List ℕ) → Headless n body (refusal_number z) → Got (read (runs p q) body n) from w w (Err z)
   unfolding read
   runs_none {z} w h = got-refused _ from w w z (rw h.none) refl
 
@@ -94,7 +95,7 @@ module _ (p q : Plan) (body : List ℕ) (n from : ℕ) where
       kept₁ : take from w₁ ≡ take from w
       kept₁ = shorter from (from + n) w₁ w (omega arith) s.kept
 
-      pub runs-stop : (z : ℕ) → o ≡ Err z → Got (read (runs p q) body n) from w w₁ (Err z)
+      pub runs-stop : (z : Refusal) → o ≡ Err z → Got (read (runs p q) body n) from w w₁ (Err z)
       runs-stop z f =
           let after : List ℕ → Answer (List ℕ) = λ vs. bind (read q (take (length body - split) (drop split body)) k) (unrolled n vs) in
           got-refused _ from w w₁ z (runs-is ∙ ap (λ (a : Answer (List ℕ)). bind a after) (got-not _ (from + n) w w₁ o s z f)) kept₁
@@ -107,7 +108,7 @@ module _ (p q : Plan) (body : List ℕ) (n from : ℕ) where
         kept₂ : take from w₂ ≡ take from w
         kept₂ = shorter from (from + 2 * n) w₂ w₁ (omega arith) t.kept ∙ kept₁
 
-        pub runs-stop-2 : (z : ℕ) → o₂ ≡ Err z → Got (read (runs p q) body n) from w w₂ (Err z)
+        pub runs-stop-2 : (z : Refusal) → o₂ ≡ Err z → Got (read (runs p q) body n) from w w₂ (Err z)
         runs-stop-2 z g =
             let after = unrolled n (part w₁ (from + n) k) in
             got-refused _ from w w₂ z (first ∙ ap (λ (a : Answer (List ℕ)). bind a after) (got-not _ (from + 2 * n) w₁ w₂ o₂ t z g)) kept₂

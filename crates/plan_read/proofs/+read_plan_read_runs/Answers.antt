@@ -3,6 +3,7 @@ use Prim.Native.Nat.{◌-◌}
 use mathlib.Core.Path.{refl, sym, ◌∙◌}
 use native.Mathlib.Omega.{arith}
 use lib.ListN.{length}
+use Rattle.std.proofs.lemmas.Result.{err_from_is_err_and}
 use Rattle.meaning.specs.Places.{Below}
 use Rattle.judge.proofs.PlanLaws.{at-bad, at_code, at-reference, at-differences, at-runs}
 use Rattle.codes.proofs.Numbered.{laws}
@@ -52,29 +53,31 @@ read_plan-returns-in-Code t c =
     let is = at_code _ _ _ _ (sym c.stage_at.ensures ∙ c.in-Code.is) in
     step-code _ _ _ _ _ _ _ _ is.0 c.read_code.ensures
 
-pub read_plan-returns-in-Refused : goal.read_plan-returns-in-Refused
-read_plan-returns-in-Refused t c =
+pub read_plan-returns-in_err-read_plan-in-Reference : goal.read_plan-returns-in_err-read_plan-in-Reference
+read_plan-returns-in_err-read_plan-in-Reference t c =
     let is = at-reference _ _ _ _ _ (sym c.stage_at.ensures ∙ c.in-Reference.is) in
-    step-reference-stop _ _ _ _ _ is.0 _ _ _ c.if-body-lt4.false c.read_plan.ensures _ c.in-Refused.is
+    let p = err_from_is_err_and c.from_residual.result c.from_residual.ensures.1 in
+    rw (p.1, p.2) (step-reference-stop _ _ _ _ _ is.0 _ _ _ c.if-body-lt4.false c.read_plan.ensures _ c.in_err-read_plan-in-Reference.was)
 
-pub read_plan-returns-in-Whole : goal.read_plan-returns-in-Whole
-read_plan-returns-in-Whole t c =
+pub read_plan-returns-in_ok-read_plan-in-Reference : goal.read_plan-returns-in_ok-read_plan-in-Reference
+read_plan-returns-in_ok-read_plan-in-Reference t c =
     let is = at-reference _ _ _ _ _ (sym c.stage_at.ensures ∙ c.in-Reference.is) in
     let bytes = part-below c.args.body.now 4 (length c.args.body.now - 4) (λ i. (c.type_inv.body i).fits) in
-    let many = whole_is laws _ _ _ _ _ _ _ _ bytes c.read_plan.ensures c.in-Whole.is in
-    step-reference _ _ _ _ _ is.0 _ _ _ c.if-body-lt4.false c.read_plan.ensures _ _ _ _ c.in-Whole.is many c.word_at-m.ensures
+    let many = whole_is laws _ _ _ _ _ _ _ _ bytes c.read_plan.ensures c.in_ok-read_plan-in-Reference.was in
+    step-reference _ _ _ _ _ is.0 _ _ _ c.if-body-lt4.false c.read_plan.ensures _ _ _ _ c.in_ok-read_plan-in-Reference.was many c.word_at-m.ensures
     c.raise.ensures
 
-pub read_plan-returns-in-Refused-read_plan : goal.read_plan-returns-in-Refused-read_plan
-read_plan-returns-in-Refused-read_plan t c =
+pub read_plan-returns-in_err-read_plan-in-Differences : goal.read_plan-returns-in_err-read_plan-in-Differences
+read_plan-returns-in_err-read_plan-in-Differences t c =
     let is = at-differences _ _ _ _ _ (sym c.stage_at.ensures ∙ c.in-Differences.is) in
-    step-differences-stop _ _ _ _ _ is.0 _ _ _ c.read_plan-in-Differences.ensures _ c.in-Refused-read_plan.is
+    let p = err_from_is_err_and c.from_residual-in_err-read_plan-in-Differences.result c.from_residual-in_err-read_plan-in-Differences.ensures.1 in
+    rw (p.1, p.2) (step-differences-stop _ _ _ _ _ is.0 _ _ _ c.read_plan-in-Differences.ensures _ c.in_err-read_plan-in-Differences.was)
 
-pub read_plan-returns-in-Whole-read_plan : goal.read_plan-returns-in-Whole-read_plan
-read_plan-returns-in-Whole-read_plan t c =
+pub read_plan-returns-in_ok-read_plan-in-Differences : goal.read_plan-returns-in_ok-read_plan-in-Differences
+read_plan-returns-in_ok-read_plan-in-Differences t c =
     let is = at-differences _ _ _ _ _ (sym c.stage_at.ensures ∙ c.in-Differences.is) in
-    let many = whole_is laws _ _ _ _ _ _ _ _ (λ i. (c.type_inv.body i).fits) c.read_plan-in-Differences.ensures c.in-Whole-read_plan.is in
-    step-differences _ _ _ _ _ is.0 _ _ _ c.read_plan-in-Differences.ensures _ _ _ c.in-Whole-read_plan.is many c.sum_up.ensures
+    let many = whole_is laws _ _ _ _ _ _ _ _ (λ i. (c.type_inv.body i).fits) c.read_plan-in-Differences.ensures c.in_ok-read_plan-in-Differences.was in
+    step-differences _ _ _ _ _ is.0 _ _ _ c.read_plan-in-Differences.ensures _ _ _ c.in_ok-read_plan-in-Differences.was many c.sum_up.ensures
 
 pub read_plan-returns-in-Runs : goal.read_plan-returns-in-Runs
 read_plan-returns-in-Runs t c =
@@ -85,64 +88,65 @@ read_plan-returns-in-Runs t c =
 
 pub read_runs-read_plan-requires : goal.read_runs-read_plan-requires
 read_runs-read_plan-requires t c =
-    let head = headed c.header_of.ensures c.in-Runs.is in
-    let split = c.in-Runs.end.byte in
-    (omega arith, fits-values c.requires head.few (part-short c.args.body.now 8 (split - 8)) refl)
+    let head = headed c.header_of.ensures c.in_ok-header.was in
+    (omega arith, fits-values c.requires head.few (part-short c.args.body.now 8 (c.in_ok-header.header.end.byte - 8)) refl)
 
-pub read_runs-read_plan-requires-in-Whole : goal.read_runs-read_plan-requires-in-Whole
-read_runs-read_plan-requires-in-Whole t c =
-    let head = headed c.header_of.ensures c.in-Runs.is in
-    let split = c.in-Runs.end.byte in
+pub read_runs-read_plan-requires-2 : goal.read_runs-read_plan-requires-2
+read_runs-read_plan-requires-2 t c =
+    let head = headed c.header_of.ensures c.in_ok-header.was in
+    let split = c.in_ok-header.header.end.byte in
     let short = part-short c.args.body.now split (length c.args.body.now - split) in
     (omega arith, fits-lengths c.requires head.few short c.read_plan.auto.work)
 
 pub read_runs-unroll_into-requires : goal.read_runs-unroll_into-requires
 read_runs-unroll_into-requires t c =
-    let head = headed c.header_of.ensures c.in-Runs.is in
+    let head = headed c.header_of.ensures c.in_ok-header.was in
     (omega (arith, fits-spread c.requires), head.few)
 
-pub read_runs-returns-in-Refused : goal.read_runs-returns-in-Refused
-read_runs-returns-in-Refused t c = runs_none _ _ _ _ _ _ (headless c.header_of.ensures c.in-Refused.is)
+pub read_runs-returns-in_err-header : goal.read_runs-returns-in_err-header
+read_runs-returns-in_err-header t c =
+    let p = err_from_is_err_and c.from_residual.result c.from_residual.ensures.1 in
+    rw (p.1, p.2) (runs_none _ _ _ _ _ _ (headless c.header_of.ensures c.in_err-header.was))
 
-pub read_runs-returns-in-Refused-read_plan : goal.read_runs-returns-in-Refused-read_plan
-read_runs-returns-in-Refused-read_plan t c =
-    let head = headed c.header_of.ensures c.in-Runs.is in
-    runs-stop _ _ _ _ _ head _ _ _ c.read_plan.ensures _ c.in-Refused-read_plan.is
+pub read_runs-returns-in_err-read_plan : goal.read_runs-returns-in_err-read_plan
+read_runs-returns-in_err-read_plan t c =
+    let head = headed c.header_of.ensures c.in_ok-header.was in
+    let p = err_from_is_err_and c.from_residual-in_err-read_plan.result c.from_residual-in_err-read_plan.ensures.1 in
+    rw (p.1, p.2) (runs-stop _ _ _ _ _ head _ _ _ c.read_plan.ensures _ c.in_err-read_plan.was)
 
-pub read_runs-returns-in-Refused-read_plan-2 : goal.read_runs-returns-in-Refused-read_plan-2
-read_runs-returns-in-Refused-read_plan-2 t c =
-    let head = headed c.header_of.ensures c.in-Runs.is in
-    let bytes = part-below c.args.body.now 8 (c.in-Runs.end.byte - 8) (λ i. (c.type_inv.body i).fits) in
-    let many = whole_is laws _ _ _ _ _ _ _ _ bytes c.read_plan.ensures c.in-Whole.is in
-    got-second _ _ _ _ _ _ _ _ _ _ _ c.plan_end-second.ensures
-    (runs-stop-2 _ _ _ _ _ head _ _ _ c.read_plan.ensures _ c.in-Whole.is many
-    _ _ c.read_plan-in-Whole.ensures _ c.in-Refused-read_plan-2.is)
+pub read_runs-returns-in_err-read_plan-2 : goal.read_runs-returns-in_err-read_plan-2
+read_runs-returns-in_err-read_plan-2 t c =
+    let head = headed c.header_of.ensures c.in_ok-header.was in
+    let bytes = part-below c.args.body.now 8 (c.in_ok-header.header.end.byte - 8) (λ i. (c.type_inv.body i).fits) in
+    let many = whole_is laws _ _ _ _ _ _ _ _ bytes c.read_plan.ensures c.in_ok-read_plan.was in
+    let p = err_from_is_err_and c.from_residual-in_err-read_plan-2.result c.from_residual-in_err-read_plan-2.ensures.1 in
+    rw (p.1, p.2) (got-second _ _ _ _ _ _ _ _ _ _ _ c.plan_end-second.ensures
+    (runs-stop-2 _ _ _ _ _ head _ _ _ c.read_plan.ensures _ c.in_ok-read_plan.was many _ _ c.read_plan-2.ensures _ c.in_err-read_plan-2.was))
 
-pub read_runs-returns-in-Whole-read_plan : goal.read_runs-returns-in-Whole-read_plan
-read_runs-returns-in-Whole-read_plan t c =
-    let head = headed c.header_of.ensures c.in-Runs.is in
-    let split = c.in-Runs.end.byte in
+pub read_runs-returns : goal.read_runs-returns
+read_runs-returns t c =
+    let head = headed c.header_of.ensures c.in_ok-header.was in
+    let split = c.in_ok-header.header.end.byte in
     let all : Below 256 c.args.body.now = λ i. (c.type_inv.body i).fits in
     let bytes = part-below c.args.body.now 8 (split - 8) all in
     let bytes₂ = part-below c.args.body.now split (length c.args.body.now - split) all in
-    let many = whole_is laws _ _ _ _ _ _ _ _ bytes c.read_plan.ensures c.in-Whole.is in
-    let many₂ = whole_is laws _ _ _ _ _ _ _ _ bytes₂ c.read_plan-in-Whole.ensures c.in-Whole-read_plan.is in
+    let many = whole_is laws _ _ _ _ _ _ _ _ bytes c.read_plan.ensures c.in_ok-read_plan.was in
+    let many₂ = whole_is laws _ _ _ _ _ _ _ _ bytes₂ c.read_plan-2.ensures c.in_ok-read_plan-2.was in
     got-second _ _ _ _ _ _ _ _ _ _ _ c.plan_end-second.ensures
-    (runs_then _ _ _ _ _ head _ _ _ c.read_plan.ensures _ c.in-Whole.is many
-    _ _ c.read_plan-in-Whole.ensures _ c.in-Whole-read_plan.is many₂
+    (runs_then _ _ _ _ _ head _ _ _ c.read_plan.ensures _ c.in_ok-read_plan.was many _ _ c.read_plan-2.ensures _ c.in_ok-read_plan-2.was many₂
     _ _ c.unroll_into.ensures)
 
 pub read_runs-slice_bounds-read_plan-count : goal.read_runs-slice_bounds-read_plan-count
-read_runs-slice_bounds-read_plan-count t c = (headed c.header_of.ensures c.in-Runs.is).after
+read_runs-slice_bounds-read_plan-count t c = (headed c.header_of.ensures c.in_ok-header.was).after
 
 pub read_runs-slice_bounds-read_plan-start : goal.read_runs-slice_bounds-read_plan-start
-read_runs-slice_bounds-read_plan-start t c = (headed c.header_of.ensures c.in-Runs.is).after
+read_runs-slice_bounds-read_plan-start t c = (headed c.header_of.ensures c.in_ok-header.was).after
 
 pub read_runs-slice_bounds-read_plan-end : goal.read_runs-slice_bounds-read_plan-end
-read_runs-slice_bounds-read_plan-end t c = (headed c.header_of.ensures c.in-Runs.is).inside
+read_runs-slice_bounds-read_plan-end t c = (headed c.header_of.ensures c.in_ok-header.was).inside
 
-pub read_runs-slice_bounds-read_plan-count-in-Whole : goal.read_runs-slice_bounds-read_plan-count-in-Whole
-read_runs-slice_bounds-read_plan-count-in-Whole t c = (headed c.header_of.ensures c.in-Runs.is).inside
+pub read_runs-slice_bounds-read_plan-count-2 : goal.read_runs-slice_bounds-read_plan-count-2
+read_runs-slice_bounds-read_plan-count-2 t c = (headed c.header_of.ensures c.in_ok-header.was).inside
 
-pub read_runs-slice_bounds-read_plan-start-in-Whole : goal.read_runs-slice_bounds-read_plan-start-in-Whole
-read_runs-slice_bounds-read_plan-start-in-Whole t c = (headed c.header_of.ensures c.in-Runs.is).inside
+pub read_runs-slice_bounds-read_plan-start-2 : goal.read_runs-slice_bounds-read_plan-start-2
+read_runs-slice_bounds-read_plan-start-2 t c = (headed c.header_of.ensures c.in_ok-header.was).inside
