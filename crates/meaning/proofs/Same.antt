@@ -2,6 +2,7 @@
 use Prim.Native.Nat.{ℕ}
 use mathlib.Core.Path.{◌≡◌, refl, sym, ap, ◌∙◌}
 use mathlib.Core.Bool.{cond}
+use native.Mathlib.Omega.{arith}
 use Rattle.std.specs.Prelude.{eqb, Result, Ok, Err}
 use Rattle.meaning.specs.Answer.{Answer, given, refused, Verdict, passed, blamed}
 use Rattle.meaning.specs.Says.{refusal_number, says, says_by, bit_told, verdict_says, counted_says}
@@ -87,3 +88,19 @@ counted-same (Ok t) (Ok u) h = let e : t ≡ u = ap (λ (x : Verdict × Tally). 
 counted-same (Ok t) (Err f) h = absurd (not-passed (refusal_number f.refusal) f.column (sym (ap (λ (x : Verdict × Tally). x.0) h)))
 counted-same (Err e) (Ok t) h = absurd (not-passed (refusal_number e.refusal) e.column (ap (λ (x : Verdict × Tally). x.0) h))
 counted-same (Err e) (Err f) h = rw (fault-same e f (ap (λ (x : Verdict × Tally). x.0) h))
+
+-- and none is numbered 0, which says that there is no refusal
+pub some-number : (e : Refusal) → refusal_number e ≡ 0 → ⊥
+some-number refusal.NoSheet h = omega arith
+some-number refusal.BadTable h = omega arith
+some-number refusal.Malformed h = omega arith
+some-number refusal.Unfit h = omega arith
+some-number refusal.NoColumn h = omega arith
+some-number refusal.NoPlace h = omega arith
+some-number refusal.NoRoom h = omega arith
+some-number refusal.ShortWork h = omega arith
+some-number refusal.CutShort h = omega arith
+some-number refusal.Falls h = omega arith
+some-number refusal.BadOrders h = omega arith
+some-number refusal.BadBoard h = omega arith
+some-number refusal.Broken h = omega arith

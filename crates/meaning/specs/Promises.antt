@@ -1,12 +1,11 @@
 -- What each public operation may answer: these are the `ensures` of the functions, and none has a `requires`.
 -- `o` is what an output held; where an operation has one, its answer stands in a pair with what the output holds afterwards.
 use Rattle.std.specs.Prelude.{ℕ, ◌≡◌, List, length, Result}
-use Rattle.std.specs.Borrow.{Bor}
 use Rattle.meaning.specs.Answer.{Answer, amount, filled}
 use Rattle.meaning.specs.Operations.{Order, write_sheet, write_apart, check, read_sheet, look_sheet, fetch, count_board}
 use Rattle.meaning.specs.Plan.{judge, worst_size}
 use Rattle.meaning.specs.Rank.{rank, select}
-use Rattle.meaning.specs.Says.{says, says_by, bit_told, part_told, verdict_says, counted_says}
+use Rattle.meaning.specs.Says.{says, says_by, bit_told, verdict_says, counted_says}
 use Rattle.meaning.specs.declared.Bit.{Bit}
 use Rattle.meaning.specs.declared.Fault.{Fault}
 use Rattle.meaning.specs.declared.Refusal.{Refusal}
@@ -49,9 +48,9 @@ Looks sheet k place r = says r ≡ look_sheet sheet k place
 abbrev pub Counts : List ℕ → List ℕ → Result Tally Fault → Type 0
 Counts sheet work r = counted_says r ≡ count_board sheet (length work)
 
--- table::fetch: a part of the sheet
-abbrev pub Fetches : List ℕ → ℕ → Result (Bor (List ℕ)) Refusal → Type 0
-Fetches sheet k r = says_by part_told r ≡ fetch sheet k
+-- table::fetch: a part of the sheet, by what it holds
+abbrev pub Fetches : List ℕ → ℕ → Result (List ℕ) Refusal → Type 0
+Fetches sheet k r = says r ≡ fetch sheet k
 
 -- bits::rank
 abbrev pub Ranks : List ℕ → ℕ → Result ℕ Refusal → Type 0

@@ -47,9 +47,10 @@ unit_told u = (u.next, take u.count u.numbers)
 abbrev pub bit_told : Bit → ℕ
 bit_told b = b.index
 
--- a lent part is told by what it holds
-abbrev pub part_told : Bor (List ℕ) → List ℕ
-part_told p = p.now
+-- a lent part by what it holds
+abbrev pub held : Result (Bor (List ℕ)) Refusal → Result (List ℕ) Refusal
+held (Ok p) = Ok p.now
+held (Err e) = Err e
 
 -- a check passes, or blames a column
 abbrev pub verdict_says : {A : Type 0} → Result A Fault → Verdict

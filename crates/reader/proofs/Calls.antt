@@ -95,6 +95,16 @@ module _ (part : List ℕ) (k : ℕ) where
       (λ h. let same : min n most_numbers ≡ n = omega arith in ap (call_over part k) same)
       (λ h. let same : min n most_numbers ≡ most_numbers = omega arith in ap (call_over part k) same ∙ refused-most n h (call_over part k most_numbers) refl)
 
+-- what a call leaves, by its answer: one place further after a number, and the same reader after a refusal
+pub step-found : (r : Reader) (x : Result ℕ Refusal) → says x ≡ answer (standing r) → is_ok x ≡ true
+    → record { sheet = r.sheet; column = r.column; place = record { number = r.place.number + 1 } } ≡ moved r
+step-found r (Ok y) e h = ap (λ (a : Answer ℕ). record { sheet = r.sheet; column = r.column; place = record { number = next_place a r.place.number } }) e
+step-found r (Err z) e h = cc
+
+pub step-refused : (r : Reader) (x : Result ℕ Refusal) → says x ≡ answer (standing r) → is_ok x ≡ false → r ≡ moved r
+step-refused r (Ok y) e h = cc
+step-refused r (Err z) e h = ap (λ (a : Answer ℕ). record { sheet = r.sheet; column = r.column; place = record { number = next_place a r.place.number } }) e
+
 module _ (sheet : List ℕ) (k : ℕ) where
   -- the answer of a reader after n calls is call n
   pub call-after : (n : ℕ) → answer (after n (opened sheet k)) ≡ call sheet k n
@@ -115,17 +125,17 @@ module _ (sheet : List ℕ) (k : ℕ) where
   tells-call n r x e told = told ∙ (ap answer e ∙ call-after n)
 
   -- a run of calls: what `open` promises of the first reader, and `step` of each answer and of the reader that it leaves
-  pub record Run (readers : ℕ → Reader) (answers : ℕ → Found) : Type 0 where
+  pub record Run (readers : ℕ → Reader) (answers : ℕ → Result ℕ Refusal) : Type 0 where
     pub opens : standing (readers 0) ≡ opened sheet k
     pub tells : (n : ℕ) → says (answers n) ≡ answer (standing (readers n))
     pub moves : (n : ℕ) → readers (suc n) ≡ moved (readers n)
 
-  stands : (readers : ℕ → Reader) (answers : ℕ → Found) → Run readers answers → (n : ℕ) → standing (readers n) ≡ after n (opened sheet k)
+  stands : (readers : ℕ → Reader) (answers : ℕ → Result ℕ Refusal) → Run readers answers → (n : ℕ) → standing (readers n) ≡ after n (opened sheet k)
   stands readers answers run zero = stands-first (readers 0) run.opens
   stands readers answers run (suc n) = ap standing (run.moves n) ∙ stands-next n (readers n) (stands readers answers run n)
 
   -- every answer of every run
-  pub every_call : (readers : ℕ → Reader) (answers : ℕ → Found) → Run readers answers → (n : ℕ) → says (answers n) ≡ call sheet k n
+  pub every_call : (readers : ℕ → Reader) (answers : ℕ → Result ℕ Refusal) → Run readers answers → (n : ℕ) → says (answers n) ≡ call sheet k n
   every_call readers answers run n = tells-call n (readers n) (answers n) (stands readers answers run n) (run.tells n)
 
   -- so many calls before call n are enough

@@ -1,6 +1,4 @@
 -- What opening a reader answers, and where a lookup that gave a number looked. Assumes nothing.
-use Rattle.meaning.specs.declared.Refusal.{Refusal}
-use Rattle.std.specs.Prelude.{Result}
 use Prim.Native.Nat.{ℕ, ◌≤◌, ◌<◌}
 use mathlib.Core.Path.{◌≡◌, sym, ap, ◌∙◌}
 use mathlib.Core.List.{List}
@@ -12,12 +10,10 @@ use Rattle.meaning.specs.Limits.{most_numbers, no_place}
 use Rattle.meaning.specs.Operations.{column, look_sheet, open_reader}
 use Rattle.meaning.specs.Plan.{plan_of}
 use Rattle.meaning.specs.Sheet.{Column, column_at}
-use Rattle.meaning.specs.Says.{says}
 use Rattle.meaning.specs.Stages.{look}
 use Rattle.meaning.proofs.Answers.{bind-given, need-given}
 use Rattle.table.proofs.ColumnLaws.{column-there, column-here}
 use Rattle.table.proofs.Sounds.{sound-column}
-use Rattle.reader.specs.Steps.{next_place}
 
 module _ (sheet : List ℕ) (k : ℕ) where
   pub open-there : (c : Column) → column sheet k ≡ given c → open_reader sheet k ≡ given sheet
@@ -47,14 +43,3 @@ module _ (sheet : List ℕ) (k : ℕ) where
       let (c, told, e₁) = bind-given (column sheet k) (λ (c : Column). need (ltb place c.count) no_place (looked c)) x e in
       let (below, _) = need-given (ltb place c.count) no_place (looked c) x e₁ in
       omega (arith, ltb-true place c.count below, count-few c told)
-
-  -- what a lookup says, by the answer's case
-  pub told-by : (place : ℕ) (r x : Result ℕ Refusal) → says r ≡ look_sheet sheet k place → r ≡ x → look_sheet sheet k place ≡ says x
-  told-by place r x e q = sym e ∙ ap says q
-
-  -- and with it the place after it
-  pub told-next : (place : ℕ) (r x : Result ℕ Refusal) → says r ≡ look_sheet sheet k place → r ≡ x
-      → (says x ≡ look_sheet sheet k place) × (next_place (says x) place ≡ next_place (look_sheet sheet k place) place)
-  told-next place r x e q =
-      let f = told-by place r x e q in
-      (sym f, sym (ap (λ (l : Answer ℕ). next_place l place) f))

@@ -1,24 +1,31 @@
 -- One possible answer: two answers, and two readers left, that meet the contract are equal. Assumes nothing.
 use Rattle.meaning.specs.declared.Refusal.{Refusal}
-use Rattle.std.specs.Prelude.{Result}
+use Rattle.std.specs.Prelude.{Result, Option, Some, None}
 use Prim.Native.Nat.{ℕ}
-use mathlib.Core.Path.{◌≡◌, sym, ◌∙◌}
+use mathlib.Core.Path.{◌≡◌, refl, sym, ◌∙◌}
 use mathlib.Core.List.{List}
 use Rattle.meaning.specs.Answer.{number}
 use Rattle.meaning.specs.Operations.{open_reader, call}
 use Rattle.meaning.specs.Says.{says}
 use Rattle.sheet.proofs.Unique.{one-lookup}
-use Rattle.reader.specs.Steps.{opened, answer, after, standing, moved}
+use Rattle.meaning.proofs.Same.{number-same, some-number}
+use Rattle.reader.specs.Steps.{opened, refusal_told, answer, after, standing, moved}
 use Rattle.reader.specs.declared.Reader.{Reader}
 use Rattle.reader.specs.declared.FirstThree.{FirstThree}
 use Rattle.reader.proofs.Calls.{call-after}
 
--- the part, the column and the place that the reader stands on, and the refusal's number
-pub one-open : (sheet : List ℕ) (k : ℕ) (r r' : Reader) (told told' : ℕ)
-    → (standing r ≡ opened sheet k) × (told ≡ number (open_reader sheet k))
-    → (standing r' ≡ opened sheet k) × (told' ≡ number (open_reader sheet k))
+-- the part, the column and the place that the reader stands on, and the refusal
+refusal-same : (e f : Option Refusal) → refusal_told e ≡ refusal_told f → e ≡ f
+refusal-same None None h = refl
+refusal-same None (Some f) h = absurd (some-number f (sym h))
+refusal-same (Some e) None h = absurd (some-number e h)
+refusal-same (Some e) (Some f) h = rw (number-same e f h)
+
+pub one-open : (sheet : List ℕ) (k : ℕ) (r r' : Reader) (told told' : Option Refusal)
+    → (standing r ≡ opened sheet k) × (refusal_told told ≡ number (open_reader sheet k))
+    → (standing r' ≡ opened sheet k) × (refusal_told told' ≡ number (open_reader sheet k))
     → (standing r ≡ standing r') × (told ≡ told')
-one-open sheet k r r' told told' e f = (e.0 ∙ sym f.0, e.1 ∙ sym f.1)
+one-open sheet k r r' told told' e f = (e.0 ∙ sym f.0, refusal-same told told' (e.1 ∙ sym f.1))
 
 -- the answer, and the reader left
 pub one-step : (r exit exit' : Reader) (x x' : Result ℕ Refusal)

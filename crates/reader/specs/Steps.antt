@@ -1,8 +1,9 @@
 -- A reader as the part, the column and the place that it stands on, what its calls make of it, and what opening and a call may answer.
-use Rattle.std.specs.Prelude.{ℕ, zero, suc, ◌+◌, ◌≡◌, List}
+use Rattle.std.specs.Prelude.{ℕ, zero, suc, ◌+◌, ◌≡◌, List, Option, Some, None, Result}
 use Rattle.meaning.specs.Answer.{Answer, given, refused, list, number}
 use Rattle.meaning.specs.Operations.{look_sheet, open_reader}
-use Rattle.meaning.specs.Says.{says}
+use Rattle.meaning.specs.Says.{refusal_number, says}
+use Rattle.meaning.specs.declared.Refusal.{Refusal}
 use Rattle.reader.specs.declared.Reader.{Reader}
 
 pub record Standing : Type 0 where
@@ -40,14 +41,15 @@ standing r = record { part = r.sheet.now; column = r.column; place = r.place.num
 abbrev pub moved : Reader → Reader
 moved r = record { sheet = r.sheet; column = r.column; place = record { number = (next (standing r)).place } }
 
--- open: where the reader stands, and the refusal's number
-abbrev pub Opens : List ℕ → ℕ → Standing × ℕ → Type 0
-Opens sheet k a = (a.0 ≡ opened sheet k) × (a.1 ≡ number (open_reader sheet k))
+-- the number of a refusal told beside an answer, 0 where there is none
+abbrev pub refusal_told : Option Refusal → ℕ
+refusal_told None = 0
+refusal_told (Some e) = refusal_number e
+
+-- open: where the reader stands, and the refusal
+abbrev pub Opens : List ℕ → ℕ → Standing × Option Refusal → Type 0
+Opens sheet k a = (a.0 ≡ opened sheet k) × (refusal_told a.1 ≡ number (open_reader sheet k))
 
 -- step: the answer, and the reader that is left
-abbrev pub Steps : Reader → Found × Reader → Type 0
+abbrev pub Steps : Reader → Result ℕ Refusal × Reader → Type 0
 Steps r a = (says a.0 ≡ answer (standing r)) × (a.1 ≡ moved r)
-
--- a lookup's answer a at a place is told, and the place after it
-abbrev pub LooksOn : Answer ℕ → ℕ → Answer ℕ × ℕ → Type 0
-LooksOn a place told = (told.0 ≡ a) × (told.1 ≡ next_place a place)

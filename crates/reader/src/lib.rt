@@ -1,16 +1,15 @@
 // A reader stands on one column of a lent sheet, and each call gives the next number.
 #![tactic(auto)]
 
-ghost use Rattle.std.specs.Prelude.{◌≡◌, min};
+ghost use Rattle.std.specs.Prelude.{◌≡◌};
 ghost use Rattle.meaning.specs.Answer.{list, number};
-ghost use Rattle.meaning.specs.Limits.{most_numbers};
-ghost use Rattle.meaning.specs.Operations.{look_sheet, open_reader, call};
-ghost use Rattle.meaning.specs.Says.{found_says};
-ghost use Rattle.reader.specs.Steps.{standing, Opens, Steps, LooksOn};
+ghost use Rattle.meaning.specs.Operations.{open_reader, call};
+ghost use Rattle.meaning.specs.Says.{says};
+ghost use Rattle.reader.specs.Steps.{standing, refusal_told, Opens, Steps};
 
-use meaning::{Found, MOST_NUMBERS, Place};
+use meaning::{MOST_NUMBERS, Place, Refusal};
 use sheet::lookup;
-use table::{Column, column_at};
+use table::column_at;
 
 // The part of the sheet that it reads, the column, and the place of the next call.
 #[derive(Drop)]
@@ -20,87 +19,55 @@ pub struct Reader<'a> {
     pub place: Place,
 }
 
-// An answer, and the place of the call after it.
-#[derive(Clone, Copy)]
-struct Looked {
-    answer: Found,
-    next: Place,
-}
-
 // The answers of the first three calls.
 #[derive(Clone, Copy)]
 pub struct FirstThree {
-    pub first: Found,
-    pub second: Found,
-    pub third: Found,
+    pub first: Result<u32, Refusal>,
+    pub second: Result<u32, Refusal>,
+    pub third: Result<u32, Refusal>,
 }
 
-// The part that a reader is opened over: the sheet, or an empty part of it where opening refuses. The refusal's number is told, 0 where the column is there.
-fn part_of<'a>(sheet: &'a [u8], column: usize, refusal: &mut u8) -> &'a [u8]
-    ensures { (result.now ≡ list (open_reader sheet.now column)) × (refusal.new ≡ number (open_reader sheet.now column)) }
+// The part that a reader is opened over: the sheet, or an empty part of it where opening refuses, and that refusal.
+fn part_of<'a>(sheet: &'a [u8], column: usize) -> (&'a [u8], Option<Refusal>)
+    ensures { (result.0.now ≡ list (open_reader sheet.now column)) × (refusal_told result.1 ≡ number (open_reader sheet.now column)) }
 {
-    let found = column_at(sheet, column);
-    match found {
-        Column::At(_) => {
-            *refusal = 0;
-            &sheet[..]
-        }
-        Column::Refused(e) => {
-            *refusal = e;
-            &sheet[0..0]
-        }
+    match column_at(sheet, column) {
+        Ok(_) => (sheet, None),
+        Err(e) => (&sheet[0..0], Some(e)),
     }
 }
 
-// Looks one number up, and tells the place after it; after a refusal that is the same place.
-fn look_on(sheet: &[u8], column: usize, place: Place) -> Looked
-    ensures { LooksOn (look_sheet sheet.now column place.number) place.number (found_says result.answer, result.next.number) }
+// Opens a reader: refused by 1 to 5, it stands on an empty part, and every call answers 1; the refusal is told beside it.
+pub fn open<'a>(sheet: &'a [u8], column: usize) -> (Reader<'a>, Option<Refusal>)
+    ensures { Opens sheet.now column (standing result.0, result.1) }
 {
-    let at = place.number;
-    let found = lookup(sheet, column, place);
-    match found {
-        Found::Number(x) => {
-            let next = at + 1;
-            Looked {
-                answer: Found::Number(x),
-                next: Place { number: next },
-            }
-        }
-        Found::Refused(e) => Looked {
-            answer: Found::Refused(e),
-            next: Place { number: at },
-        },
-    }
-}
-
-// Opens a reader: refused by 1 to 5, it stands on an empty part, and every call answers 1.
-pub fn open<'a>(sheet: &'a [u8], column: usize, refusal: &mut u8) -> Reader<'a>
-    ensures { Opens sheet.now column (standing result, refusal.new) }
-{
-    let part = part_of(sheet, column, refusal);
-    Reader {
+    let (part, refusal) = part_of(sheet, column);
+    let reader = Reader {
         sheet: part,
         column,
         place: Place { number: 0 },
-    }
+    };
+    (reader, refusal)
 }
 
 // One call: it answers as a lookup at the reader's place, and moves on unless it is refused.
-pub fn step<'s, 'a>(r: &'s mut Reader<'a>) -> Found
+pub fn step<'s, 'a>(r: &'s mut Reader<'a>) -> Result<u32, Refusal>
     ensures { Steps r.old (result, r.new) }
 {
-    let looked = look_on(r.sheet, r.column, r.place);
-    r.place = looked.next;
-    looked.answer
+    let answer = lookup(r.sheet, r.column, r.place);
+    if answer.is_ok() {
+        let next = r.place.number + 1;
+        r.place = Place { number: next };
+    }
+    answer
 }
 
 // The answers of the first three calls of a reader opened over a column.
 pub fn first_three(sheet: &[u8], column: usize) -> FirstThree
-    ensures { (found_says result.first ≡ call sheet.now column 0) × (found_says result.second ≡ call sheet.now column 1) ×
-        (found_says result.third ≡ call sheet.now column 2) }
+    ensures { (says result.first ≡ call sheet.now column 0) × (says result.second ≡ call sheet.now column 1) ×
+        (says result.third ≡ call sheet.now column 2) }
 {
-    let mut refusal: u8 = 0;
-    let mut r = open(sheet, column, &mut refusal);
+    let (mut r, _) = open(sheet, column);
     let first = step(&mut r);
     let second = step(&mut r);
     let third = step(&mut r);
@@ -111,24 +78,14 @@ pub fn first_three(sheet: &[u8], column: usize) -> FirstThree
     }
 }
 
-// How many calls are made before call k: no more than a column can have numbers, since by then one was refused, and each later call gives that refusal again.
-fn calls_before(k: usize) -> usize
-    ensures { result ≡ min k most_numbers }
-{
-    if k < MOST_NUMBERS { k } else { MOST_NUMBERS }
-}
-
 // The answer of call k of a reader opened over a column: the reader makes the calls before it, and then that one.
-pub fn nth_call(sheet: &[u8], column: usize, k: usize) -> Found
-    ensures { found_says result ≡ call sheet.now column k }
+pub fn nth_call(sheet: &[u8], column: usize, k: usize) -> Result<u32, Refusal>
+    ensures { says result ≡ call sheet.now column k }
 {
-    let mut refusal: u8 = 0;
-    let mut r = open(sheet, column, &mut refusal);
-    let before = calls_before(k);
-    let mut i: usize = 0;
-    while i < before {
+    let (mut r, _) = open(sheet, column);
+    // No more calls than a column can have numbers: by then one was refused, and each later call gives that refusal again.
+    for _ in 0..k.min(MOST_NUMBERS) {
         step(&mut r);
-        i += 1;
     }
     step(&mut r)
 }

@@ -47,10 +47,10 @@ module _ {sheet : List ℕ} {k : ℕ} {w : List ℕ} {e : Entry} (known : Known 
         record { fits = omega (arith, many, length-take n w₁); here = sym (ap list r) }
 
     -- it was read before, so that it is not refused
-    pub again-never : {z : ℕ} → q ≡ Err z → ReadAgain sheet k w₁ 0
+    pub again-never : {z : Refusal} → q ≡ Err z → ReadAgain sheet k w₁ 0
     again-never {z} t =
         let (xs, r) = column-passed sheet (length w) known.checked k known.exists in
-        absurd (not-given z xs (sym (entry-refused is so t) ∙ r))
+        absurd (not-given _ xs (sym (entry-refused is so t) ∙ r))
 
 -- ---- the jobs
 pub checked-whole : (sheet : List ℕ) (work : ℕ) → check sheet work ≡ passed → (k : ℕ) → k < column_count sheet → Within sheet k

@@ -1,4 +1,5 @@
 -- What checking a sheet answers, over plain variables. Assumes nothing.
+use Rattle.meaning.specs.Says.{refusal_number}
 use Rattle.meaning.specs.declared.Refusal.{Refusal}
 use Rattle.std.specs.Prelude.{Result, Ok, Err}
 use Prim.Native.Nat.{ℕ, zero, suc, ◌+◌, ◌*◌, ◌≤◌, ◌<◌}
@@ -118,6 +119,6 @@ module _ {sheet w₀ : List ℕ} {columns : ℕ} {w : List ℕ} {k : ℕ} (so : 
               below = below-turn check_column (columns_of sheet) blank_column k so.below inside _ (entry-given is got t).0;
             }
 
-        pub bodies-refuse : {z : ℕ} → q ≡ Err z → blamed z k ≡ in_turn check_column 0 (columns_of sheet)
+        pub bodies-refuse : {z : Refusal} → q ≡ Err z → blamed (refusal_number z) k ≡ in_turn check_column 0 (columns_of sheet)
         unfolding check_column
         bodies-refuse t = sym (below-refuse check_column (columns_of sheet) blank_column k so.below inside _ (entry-refused is got t))

@@ -7,8 +7,8 @@ use native.Mathlib.Decide.{ℕ_discrete}
 use native.Mathlib.Numerals.{add-one}
 use native.Mathlib.Omega.{arith}
 use lib.Dec.{leb}
-use lib.ListN.{length, get_or, take, length-take}
-use lib.Seq.{take-suc, take_all, get_or-take, length-take-le}
+use lib.ListN.{length, get_or, take}
+use lib.Seq.{take-suc, take_all}
 use borrow.Author.Tests.{le-leb, lt-leb, ne_eqb}
 use Rattle.meaning.specs.Answer.{passed, blamed}
 use Rattle.meaning.specs.Limits.{bad_board}
@@ -73,45 +73,36 @@ module _ (t : Tally) (e : ℕ) where
             ]
       ]
 
--- ---- of the first n numbers of a slice those below i are counted
-pub record Tallying (w : List ℕ) (n : ℕ) (t : Tally) (i : ℕ) : Type 0 where
-  pub room : n ≤ length w
-  pub counted : t ≡ tally_of (take i (take n w))
+-- ---- of some endings the first i are counted
+pub record Tallying (xs : List ℕ) (t : Tally) (i : ℕ) : Type 0 where
+  pub counted : t ≡ tally_of (take i xs)
   pub many : total t ≡ i
-  pub ends : HoldBelow (λ e. leb e 256) (take n w) i
+  pub ends : HoldBelow (λ e. leb e 256) xs i
 
-pub tally-first : {w : List ℕ} {n : ℕ} → n ≤ length w → Tallying w n no_tally 0
+pub tally-first : {xs : List ℕ} → Tallying xs no_tally 0
 unfolding tally_of count
-tally-first room = record { room = room; counted = refl; many = refl; ends = refl }
+tally-first = record { counted = refl; many = refl; ends = refl }
 
-module _ {w : List ℕ} {n : ℕ} {t : Tally} {i : ℕ} (so : Tallying w n t i) where
-  pub tally-end : n ≤ i → (passed, t) ≡ endings_told (take n w)
+module _ {xs : List ℕ} {t : Tally} {i : ℕ} (so : Tallying xs t i) where
+  pub tally-end : length xs ≤ i → (passed, t) ≡ endings_told xs
   tally-end h =
-      let over : length (take n w) ≤ i = omega (arith, length-take n w) in
-      let yes : all (λ e. leb e 256) (take n w) ≡ true = hold-end (λ e. leb e 256) (take n w) i so.ends over in
-      rw yes (ap (λ (r : Tally). (passed, r)) (so.counted ∙ ap tally_of (take_all i (take n w) over)))
+      let yes : all (λ e. leb e 256) xs ≡ true = hold-end (λ e. leb e 256) xs i so.ends h in
+      rw yes (ap (λ (r : Tally). (passed, r)) (so.counted ∙ ap tally_of (take_all i xs h)))
 
-  module _ (h : i < n) where
-    there : i < length (take n w)
-    there = omega (arith, length-take-le n w so.room)
-
-    turned : get_or (take n w) i 0 ≤ 256 → Tallying w n (with_ending t (get_or (take n w) i 0)) (i + 1)
-    turned l =
-        let xs = take n w in
+  module _ (h : i < length xs) where
+    pub tally-turn : get_or xs i 0 ≤ 256 → {t' : Tally} → t' ≡ with_ending t (get_or xs i 0) → Tallying xs t' (i + 1)
+    tally-turn l e' =
         let e = get_or xs i 0 in
-        let next : take i xs ++ (e ∷ []) ≡ take (i + 1) xs = rw add-one (sym (take-suc xs i 0 there)) in
-        record {
-          room = so.room;
+        let next : take i xs ++ (e ∷ []) ≡ take (i + 1) xs = rw add-one (sym (take-suc xs i 0 h)) in
+        rw e'
+        (record {
           counted = ap (λ (u : Tally). with_ending u e) so.counted ∙ sym (tally-append (take i xs) (e ∷ [])) ∙ ap tally_of next;
           many = omega (arith, one_more t e l, so.many);
-          ends = hold-turn (λ e. leb e 256) xs 0 i so.ends there (le-leb e 256 l);
-        }
+          ends = hold-turn (λ e. leb e 256) xs 0 i so.ends h (le-leb e 256 l);
+        })
 
-    pub tally-turn : get_or w i 0 ≤ 256 → {t' : Tally} → t' ≡ with_ending t (get_or w i 0) → Tallying w n t' (i + 1)
-    tally-turn l e = let at = get_or-take n w i 0 h in rw (e, ← at) (turned (omega (arith, at)))
-
-    pub tally-over : 256 < get_or w i 0 → (blamed bad_board 0, no_tally) ≡ endings_told (take n w)
+    pub tally-over : 256 < get_or xs i 0 → (blamed bad_board 0, no_tally) ≡ endings_told xs
     tally-over l =
-        let over : leb (get_or (take n w) i 0) 256 ≡ false = lt-leb (get_or (take n w) i 0) 256 (omega (arith, get_or-take n w i 0 h)) in
-        let no : all (λ e. leb e 256) (take n w) ≡ false = hold-fail (λ e. leb e 256) (take n w) 0 i so.ends there over in
+        let over : leb (get_or xs i 0) 256 ≡ false = lt-leb (get_or xs i 0) 256 l in
+        let no : all (λ e. leb e 256) xs ≡ false = hold-fail (λ e. leb e 256) xs 0 i so.ends h over in
         rw no

@@ -1,4 +1,5 @@
 -- A column by its entry: the parts that are lent for it, and what was read of them. Assumes nothing.
+use Rattle.meaning.specs.Says.{refusal_number}
 use Rattle.meaning.specs.declared.Refusal.{Refusal}
 use Rattle.std.specs.Prelude.{Result, Ok, Err}
 use Prim.Native.Nat.{ℕ, ◌+◌, ◌-◌, ◌*◌, ◌≤◌}
@@ -57,7 +58,7 @@ module _ {sheet : List ℕ} {k : ℕ} {e : Entry} (is : EntryIs sheet k e) where
     pub entry-given : {n : ℕ} → q ≡ Ok n → (read_column (column_at sheet k) ≡ given (part w₁ 0 n)) × (length (part w₁ 0 n) ≡ n)
     entry-given {n} t = let (r, many) = got-given (read_column (column_of sheet e)) 0 w w₁ q got n t in (same ∙ r, many)
 
-    pub entry-refused : {z : ℕ} → q ≡ Err z → read_column (column_at sheet k) ≡ refused z
+    pub entry-refused : {z : Refusal} → q ≡ Err z → read_column (column_at sheet k) ≡ refused (refusal_number z)
     entry-refused {z} t = same ∙ got-not (read_column (column_of sheet e)) 0 w w₁ q got z t
 
   module _ (here : Here sheet k) where

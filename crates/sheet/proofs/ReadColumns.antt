@@ -1,5 +1,6 @@
 -- A column read: its plan's reading, and that the list is of its kind. Assumes only the laws of the codes.
 use Rattle.meaning.specs.declared.Refusal.{Refusal}
+use Rattle.meaning.specs.declared.Refusal.TheVariants.{Broken}
 use Rattle.std.specs.Prelude.{Result, Ok, Err}
 use Prim.Native.Nat.{ℕ, ◌+◌, ◌≤◌}
 use mathlib.Core.Path.{◌≡◌, refl, sym, ap, ◌∙◌, subst}
@@ -43,12 +44,12 @@ module _ (sheet : List ℕ) (e : Entry) {w w₁ : List ℕ} {q : Result ℕ Refu
   so : Got all 0 w w₁ q
   so = subst (λ (a : Answer (List ℕ)). Got a 0 w w₁ q) (of-column sheet e read) lent
 
-  pub column-stop : {z : ℕ} → q ≡ Err z → Got (read_column (column_of sheet e)) 0 w w₁ (Err z)
+  pub column-stop : {z : Refusal} → q ≡ Err z → Got (read_column (column_of sheet e)) 0 w w₁ (Err z)
   unfolding read_column
   column-stop {z} t = got-stop all 0 w w₁ q so (keep (edition_of sheet) e.kind) z t
 
   module _ {n : ℕ} (t : q ≡ Ok n) where
-    pub column-room : 0 + n ≤ length w₁
+    pub column-room : n ≤ length w₁
     column-room = omega (arith, (got-given all 0 w w₁ q so n t).1, length-take n w₁)
 
     module _ {edition : ℕ} (known : edition ≡ edition_of sheet) where
@@ -59,11 +60,11 @@ module _ (sheet : List ℕ) (e : Entry) {w w₁ : List ℕ} {q : Result ℕ Refu
           got-then all 0 w w₁ q so (keep (edition_of sheet) e.kind) n t w₁ (Ok n)
           (subst (λ (a : Answer (List ℕ)). Got a 0 w₁ w₁ (Ok n)) (sym k) (got-part w₁ n (got-given all 0 w w₁ q so n t).1))
 
-      pub column-other : false ≡ of_kind edition e.kind (part w₁ 0 n) → Got (read_column (column_of sheet e)) 0 w w₁ (Err broken)
+      pub column-other : false ≡ of_kind edition e.kind (part w₁ 0 n) → Got (read_column (column_of sheet e)) 0 w w₁ (Err Broken)
       unfolding read_column
       column-other y =
-          got-then all 0 w w₁ q so (keep (edition_of sheet) e.kind) n t w₁ (Err broken)
-          (got-refused (keep (edition_of sheet) e.kind (part w₁ 0 n)) 0 w₁ w₁ broken (rw (← known, ← y)) refl)
+          got-then all 0 w w₁ q so (keep (edition_of sheet) e.kind) n t w₁ (Err Broken)
+          (got-refused (keep (edition_of sheet) e.kind (part w₁ 0 n)) 0 w₁ w₁ Broken (rw (← known, ← y)) refl)
 
 -- a column that was read: its plan's reading, of the declared kind
 pub column-given : (c : Column) (xs : List ℕ) → read_column c ≡ given xs

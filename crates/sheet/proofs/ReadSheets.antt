@@ -1,5 +1,6 @@
 -- What reading a column of a sheet answers, over plain variables. Assumes only the laws of the codes.
 use Rattle.meaning.specs.declared.Refusal.{Refusal}
+use Rattle.meaning.specs.declared.Refusal.TheVariants.{ShortWork, NoRoom}
 use Rattle.std.specs.Prelude.{Result, Ok, Err}
 use Prim.Native.Nat.{ℕ, ◌+◌, ◌*◌, ◌≤◌, ◌<◌}
 use mathlib.Core.Path.{◌≡◌, sym, ap, ◌∙◌}
@@ -13,7 +14,7 @@ use Rattle.meaning.specs.Answer.{Answer, given, refused, amount, filled}
 use Rattle.meaning.specs.Limits.{no_room, short_work}
 use Rattle.meaning.specs.Operations.{column, read_sheet}
 use Rattle.meaning.specs.Places.{part, Below, Got}
-use Rattle.meaning.specs.Says.{says}
+use Rattle.meaning.specs.Says.{refusal_number, says}
 use Rattle.meaning.specs.Sheet.{Column, read_column}
 use Rattle.stages.proofs.Gots.{got-given, got-not}
 use Rattle.table.specs.Entries.{Opened}
@@ -23,11 +24,11 @@ use Rattle.sheet.proofs.Entered.{body_bytes, opened-column}
 use Rattle.sheet.proofs.ReadColumns.{column-many}
 
 -- what a reading says and leaves in the output
-abbrev pub ReadSays : Answer (List ℕ) → List ℕ → List ℕ → Reading → Type 0
+abbrev pub ReadSays : Answer (List ℕ) → List ℕ → List ℕ → Result ℕ Refusal → Type 0
 ReadSays a out out' r = (says r ≡ amount a) × (out' ≡ filled a out)
 
 -- a refusal leaves the output as it was
-says-refused : (a : Answer (List ℕ)) (out : List ℕ) (z : ℕ) → a ≡ refused z → ReadSays a out out (Err z)
+says-refused : (a : Answer (List ℕ)) (out : List ℕ) (z : Refusal) → a ≡ refused (refusal_number z) → ReadSays a out out (Err z)
 says-refused a out z e = (ap amount (sym e), sym (ap (λ (b : Answer (List ℕ)). filled b out) e))
 
 -- n numbers were copied to its start
@@ -61,26 +62,26 @@ module _ (sheet : List ℕ) (k work room : ℕ) where
 
 -- ---- by the entry
 -- a column that is not there
-pub says_none : (sheet : List ℕ) (k : ℕ) (w out : List ℕ) {z : ℕ} → column sheet k ≡ refused z
+pub says_none : (sheet : List ℕ) (k : ℕ) (w out : List ℕ) {z : Refusal} → column sheet k ≡ refused (refusal_number z)
     → ReadSays (read_sheet sheet k (length w) (length out)) out out (Err z)
-says_none sheet k w out {z} e = says-refused (read_sheet sheet k (length w) (length out)) out z (read_none sheet k (length w) (length out) z e)
+says_none sheet k w out {z} e = says-refused (read_sheet sheet k (length w) (length out)) out z (read_none sheet k (length w) (length out) (refusal_number z) e)
 
 module _ {sheet : List ℕ} {k : ℕ} {e : Entry} (o : Opened sheet k e) (w out : List ℕ) where
   abbrev answer : Answer (List ℕ)
   answer = read_sheet sheet k (length w) (length out)
 
-  pub says-short : length w < 7 * e.count → ReadSays answer out out (Err short_work)
-  says-short h = says-refused answer out short_work (read_short sheet k (length w) (length out) (column_of sheet e) (opened-column o) h)
+  pub says-short : length w < 7 * e.count → ReadSays answer out out (Err ShortWork)
+  says-short h = says-refused answer out ShortWork (read_short sheet k (length w) (length out) (column_of sheet e) (opened-column o) h)
 
   module _ (room : 7 * e.count ≤ length w) where
-    pub says-full : length out < e.count → ReadSays answer out out (Err no_room)
-    says-full h = says-refused answer out no_room (read-full sheet k (length w) (length out) (column_of sheet e) (opened-column o) room h)
+    pub says-full : length out < e.count → ReadSays answer out out (Err NoRoom)
+    says-full h = says-refused answer out NoRoom (read-full sheet k (length w) (length out) (column_of sheet e) (opened-column o) room h)
 
     module _ (fits : e.count ≤ length out) {w₁ : List ℕ} {q : Result ℕ Refusal} (so : Got (read_column (column_of sheet e)) 0 w w₁ q) where
       is : answer ≡ read_column (column_of sheet e)
       is = read_all sheet k (length w) (length out) (column_of sheet e) (opened-column o) room fits
 
-      pub says-fault : {z : ℕ} → q ≡ Err z → ReadSays answer out out (Err z)
+      pub says-fault : {z : Refusal} → q ≡ Err z → ReadSays answer out out (Err z)
       says-fault {z} t = says-refused answer out z (is ∙ got-not (read_column (column_of sheet e)) 0 w w₁ q so z t)
 
       -- the numbers that stand in work are those that the entry counts
@@ -91,7 +92,7 @@ module _ {sheet : List ℕ} {k : ℕ} {e : Entry} (o : Opened sheet k e) (w out 
         counted : n ≡ e.count
         counted = sym got.1 ∙ (column-many (column_of sheet e) (part w₁ 0 n) (body_bytes sheet e bytes) got.0).1
 
-        pub copy-room : (0 + n ≤ length w₁) × (n ≤ length out)
+        pub copy-room : (n ≤ length w₁) × (n ≤ length out)
         copy-room = (omega (arith, got.1, length-take n w₁), omega (arith, counted))
 
         pub says-copied : {out' : List ℕ} → out' ≡ sets out 0 (take n w₁) → ReadSays answer out out' (Ok n)

@@ -70,17 +70,17 @@ pub fn read(
 pub fn lookup(sheet: &[u8], column: usize, place: Place) -> Result<u32, Refusal>
     ensures { Looks sheet.now column place.number result }
 {
-    let entry = column_at(sheet, column)?;
-    if entry.count <= place.number {
+    let found = column_at(sheet, column)?;
+    if found.count <= place.number {
         return Err(Refusal::NoPlace);
     }
-    let plan = entry.plan;
+    let plan = found.plan;
     let from = plan.byte;
     let to = from + PLAN_BYTES;
-    let body = entry.body;
+    let body = found.body;
     let start = body.byte;
-    let end = start + entry.size;
-    lookup_list(&sheet[from..to], &sheet[start..end], entry.count, place)
+    let end = start + found.size;
+    lookup_list(&sheet[from..to], &sheet[start..end], found.count, place)
 }
 
 // Counts the board: the check, then the board's rules, 12. Column 0 holds job numbers, column 1 endings.

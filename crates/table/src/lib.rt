@@ -4,7 +4,7 @@
 ghost use Rattle.std.specs.Prelude.{◌≡◌};
 ghost use Rattle.meaning.specs.Answer.{passed};
 ghost use Rattle.meaning.specs.Promises.{Fetches};
-ghost use Rattle.meaning.specs.Says.{verdict_says};
+ghost use Rattle.meaning.specs.Says.{held, verdict_says};
 ghost use Rattle.meaning.specs.Sheet.{sound as sound_of, largest_count};
 ghost use Rattle.table.specs.Entries.{Here, EntryIs, ColumnIs};
 
@@ -91,7 +91,7 @@ pub fn column_at(sheet: &[u8], column: usize) -> Result<Entry, Refusal>
 
 // A column's body itself, a part of the lent sheet.
 pub fn fetch<'a>(sheet: &'a [u8], column: usize) -> Result<&'a [u8], Refusal>
-    ensures { Fetches sheet.now column result }
+    ensures { Fetches sheet.now column (held result) }
 {
     let entry = column_at(sheet, column)?;
     let body = entry.body;

@@ -1,49 +1,51 @@
 -- `read` reads into work, and copies what is whole; every refusal leaves the output. Assumes only the laws of the codes.
 use native.Mathlib.Omega.{arith}
-use Rattle.table.proofs.ColumnLaws.{opened-by, refused-by}
+use Rattle.std.proofs.lemmas.Result.{err_from_is_err_and}
 use Rattle.sheet.proofs.Entered.{count-few, readable, opened-here}
 use Rattle.sheet.proofs.ReadSheets.{says_none, says-short, says-full, says-fault, copy-room, says-copied}
 use Rattle.sheet.proofs.read.Goals as goal
 
-pub overflow_mul-needed : goal.overflow_mul-needed
-overflow_mul-needed c =
-    let opened = opened-by _ _ _ _ c.column_at-found.ensures c.in-At.is in
+pub overflow_mul : goal.overflow_mul
+overflow_mul c =
+    let opened = c.in_ok-entry.ensures in
     omega (arith, count-few opened.entry (opened-here opened))
 
-pub returns-then-work-needed : goal.returns-then-work-needed
-returns-then-work-needed c =
-    let opened = opened-by _ _ _ _ c.column_at-found.ensures c.in-At.is in
-    says-short opened c.args.work.now c.args.out.now c.if-work-needed.true
+pub returns-then-work-entry : goal.returns-then-work-entry
+returns-then-work-entry c =
+    let opened = c.in_ok-entry.ensures in
+    says-short opened c.args.work.now c.args.out.now c.if-work-entry.true
 
-pub returns-then-out-count : goal.returns-then-out-count
-returns-then-out-count c =
-    let opened = opened-by _ _ _ _ c.column_at-found.ensures c.in-At.is in
-    says-full opened c.args.work.now c.args.out.now c.if-work-needed.false c.if-out-count.true
+pub returns-then-out-entry : goal.returns-then-out-entry
+returns-then-out-entry c =
+    let opened = c.in_ok-entry.ensures in
+    says-full opened c.args.work.now c.args.out.now c.if-work-entry.false c.if-out-entry.true
 
-pub read_column-got-requires : goal.read_column-got-requires
-read_column-got-requires c =
-    let opened = opened-by _ _ _ _ c.column_at-found.ensures c.in-At.is in
-    readable opened.entry (opened-here opened) c.if-work-needed.false
+pub read_column-requires : goal.read_column-requires
+read_column-requires c =
+    let opened = c.in_ok-entry.ensures in
+    readable opened.entry (opened-here opened) c.if-work-entry.false
 
 pub copy_list-requires : goal.copy_list-requires
 copy_list-requires c =
-    let opened = opened-by _ _ _ _ c.column_at-found.ensures c.in-At.is in
-    copy-room opened c.args.work.now c.args.out.now c.if-work-needed.false c.if-out-count.false c.read_column-got.ensures
-    c.in-Whole.is (λ i. (c.type_inv.sheet i).fits)
+    let opened = c.in_ok-entry.ensures in
+    copy-room opened c.args.work.now c.args.out.now c.if-work-entry.false c.if-out-entry.false c.read_column.ensures
+    c.in_ok-n.was (λ i. (c.type_inv.sheet i).fits)
 
-pub returns-in-Refused : goal.returns-in-Refused
-returns-in-Refused c =
+pub returns-in_err-entry : goal.returns-in_err-entry
+returns-in_err-entry c =
     let a = c.args in
-    says_none a.sheet.now a.column a.work.now a.out.now (refused-by _ _ _ _ c.column_at-found.ensures c.in-Refused.is)
+    let p = err_from_is_err_and c.from_residual.result c.from_residual.ensures.1 in
+    rw (p.1, p.2) (says_none a.sheet.now a.column a.work.now a.out.now c.in_err-entry.ensures)
 
-pub returns-in-Refused-got : goal.returns-in-Refused-got
-returns-in-Refused-got c =
-    let opened = opened-by _ _ _ _ c.column_at-found.ensures c.in-At.is in
-    says-fault opened c.args.work.now c.args.out.now c.if-work-needed.false c.if-out-count.false c.read_column-got.ensures
-    c.in-Refused-got.is
+pub returns-in_err-n : goal.returns-in_err-n
+returns-in_err-n c =
+    let opened = c.in_ok-entry.ensures in
+    let p = err_from_is_err_and c.from_residual-in_err-n.result c.from_residual-in_err-n.ensures.1 in
+    rw (p.1, p.2) (says-fault opened c.args.work.now c.args.out.now c.if-work-entry.false c.if-out-entry.false c.read_column.ensures
+    c.in_err-n.was)
 
-pub returns-in-Whole : goal.returns-in-Whole
-returns-in-Whole c =
-    let opened = opened-by _ _ _ _ c.column_at-found.ensures c.in-At.is in
-    says-copied opened c.args.work.now c.args.out.now c.if-work-needed.false c.if-out-count.false c.read_column-got.ensures
-    c.in-Whole.is (λ i. (c.type_inv.sheet i).fits) c.copy_list.ensures
+pub returns : goal.returns
+returns c =
+    let opened = c.in_ok-entry.ensures in
+    says-copied opened c.args.work.now c.args.out.now c.if-work-entry.false c.if-out-entry.false c.read_column.ensures
+    c.in_ok-n.was (λ i. (c.type_inv.sheet i).fits) c.copy_list.ensures

@@ -1,10 +1,6 @@
--- `tally_in` has counted the endings below i. Assumes nothing.
-use Prim.Native.Nat.{◌-◌}
+-- `tally_in` has counted the first endings. Assumes nothing.
 use Rattle.sheet.proofs.Endings.{Tallying}
 use Rattle.sheet.proofs.boards.tally_in.Given as goal
 
-abbrev pub invariant-loop-i : goal.invariant-loop-i
-invariant-loop-i l = Tallying l.work l.n l.tally l.i
-
-abbrev pub decreases-loop-i : goal.decreases-loop-i
-decreases-loop-i l = l.n - l.i
+abbrev pub invariant-loop-ending : goal.invariant-loop-ending
+invariant-loop-ending l = Tallying l.endings l.tally l.ending-index

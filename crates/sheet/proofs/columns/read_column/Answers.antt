@@ -1,32 +1,29 @@
 -- `read_column` lends the plan's and the body's parts, and asks the list whether it is of its kind. Assumes nothing.
 use mathlib.Core.Path.{sym, ◌∙◌}
+use Rattle.std.proofs.lemmas.Result.{err_from_is_err_and}
 use Rattle.sheet.proofs.Entered.{body-short}
 use Rattle.sheet.proofs.ReadColumns.{column-stop, column-room, column-kept, column-other}
 use Rattle.sheet.proofs.columns.read_column.Goals as goal
 
-pub read_list-got-requires : goal.read_list-got-requires
-read_list-got-requires c =
+pub read_list-requires : goal.read_list-requires
+read_list-requires c =
     let a = c.args in
     (body-short a.sheet.now a.entry c.requires.short, c.requires.few, c.requires.room)
 
-pub of_kind-kept-requires : goal.of_kind-kept-requires
-of_kind-kept-requires c =
+pub returns-then-of_kind : goal.returns-then-of_kind
+returns-then-of_kind c =
     let a = c.args in
-    column-room a.sheet.now a.entry c.read_list-got.ensures c.in-Whole.is
+    column-kept a.sheet.now a.entry c.read_list.ensures c.in_ok-n.was c.edition_of.ensures
+    (sym c.if-of_kind.true ∙ c.of_kind.ensures)
 
-pub returns-then-kept : goal.returns-then-kept
-returns-then-kept c =
+pub returns-in_err-n : goal.returns-in_err-n
+returns-in_err-n c =
     let a = c.args in
-    column-kept a.sheet.now a.entry c.read_list-got.ensures c.in-Whole.is c.edition_of-edition.ensures
-    (sym c.if-kept.true ∙ c.of_kind-kept.ensures)
+    let p = err_from_is_err_and c.from_residual.result c.from_residual.ensures.1 in
+    rw (p.1, p.2) (column-stop a.sheet.now a.entry c.read_list.ensures c.in_err-n.was)
 
-pub returns-in-Refused : goal.returns-in-Refused
-returns-in-Refused c =
+pub returns : goal.returns
+returns c =
     let a = c.args in
-    column-stop a.sheet.now a.entry c.read_list-got.ensures c.in-Refused.is
-
-pub returns-else-kept : goal.returns-else-kept
-returns-else-kept c =
-    let a = c.args in
-    column-other a.sheet.now a.entry c.read_list-got.ensures c.in-Whole.is c.edition_of-edition.ensures
-    (sym c.if-kept.false ∙ c.of_kind-kept.ensures)
+    column-other a.sheet.now a.entry c.read_list.ensures c.in_ok-n.was c.edition_of.ensures
+    (sym c.if-of_kind.false ∙ c.of_kind.ensures)
