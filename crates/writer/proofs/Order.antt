@@ -1,5 +1,6 @@
 -- The order of refusals: 11; each plan in turn; each list in turn 10; 8; 7. Assumes nothing.
 use Rattle.meaning.specs.declared.Refusal.{Refusal}
+use Rattle.meaning.specs.declared.Refusal.TheVariants as refusal
 use Rattle.std.specs.Prelude.{Result, Ok, Err}
 use Prim.Native.Nat.{ℕ, ◌*◌, ◌≤◌, ◌<◌}
 use mathlib.Core.Path.{◌≡◌, refl, sym, ap, ap₂, ◌∙◌}
@@ -15,7 +16,7 @@ use Rattle.meaning.specs.Answer.{Answer, given, refused, need, amount, filled, V
 use Rattle.meaning.specs.Limits.{most_bytes, bad_orders, fallen, short_work, no_room}
 use Rattle.meaning.specs.Lists.{all, largest}
 use Rattle.meaning.specs.Operations.{write_listed, write_sheet, write_apart}
-use Rattle.meaning.specs.Says.{says}
+use Rattle.meaning.specs.Says.{refusal_number, says}
 use Rattle.meaning.specs.Sheet.{is_edition, Listed, sheet_bytes}
 use Rattle.meaning.proofs.Answers.{not-given, need-refused}
 use Rattle.meaning.proofs.Tests.{by_order}
@@ -49,7 +50,7 @@ sheet_by edition ls most work room = need (leb (7 * most) work) short_work (shee
 abbrev answer : ℕ → List ℕ → List ℕ → List ℕ → List ℕ → List ℕ → List ℕ → Answer (List ℕ)
 answer edition kinds plans counts numbers w o = write_apart edition kinds plans counts numbers (length w) (length o)
 
-abbrev Told : ℕ → List ℕ → List ℕ → List ℕ → List ℕ → List ℕ → List ℕ → Sized → List ℕ → Type 0
+abbrev Told : ℕ → List ℕ → List ℕ → List ℕ → List ℕ → List ℕ → List ℕ → Result ℕ Refusal → List ℕ → Type 0
 Told edition kinds plans counts numbers w o r o' =
     (says r ≡ amount (answer edition kinds plans counts numbers w o)) × (o' ≡ filled (answer edition kinds plans counts numbers w o) o)
 
@@ -68,7 +69,7 @@ pub record PastWork (edition : ℕ) (kinds plans counts numbers w o : List ℕ) 
   pub left : answer edition kinds plans counts numbers w o ≡ sheet_in edition (columns_by kinds plans counts numbers) (length o)
 
 module _ (edition : ℕ) (kinds plans counts numbers w o : List ℕ) where
-  told-refused : (z : ℕ) → answer edition kinds plans counts numbers w o ≡ refused z → Told edition kinds plans counts numbers w o (Err z) o
+  told-refused : (z : Refusal) → answer edition kinds plans counts numbers w o ≡ refused (refusal_number z) → Told edition kinds plans counts numbers w o (Err z) o
   told-refused z e = (ap amount (sym e), ap (λ (x : Answer (List ℕ)). filled x o) (sym e))
 
   -- an edition that there is not is 11, whatever else is
@@ -76,8 +77,8 @@ module _ (edition : ℕ) (kinds plans counts numbers w o : List ℕ) where
   unfolding write_apart write_sheet
   other-edition e = rw e (need-refused (long_together kinds plans counts) bad_orders)
 
-  pub refuse-edition : {known : Bool} → known ≡ is_edition edition → not known ≡ true → Told edition kinds plans counts numbers w o (Err bad_orders) o
-  refuse-edition {known} ek e = told-refused bad_orders (other-edition (sym ek ∙ not-true known e))
+  pub refuse-edition : {known : Bool} → known ≡ is_edition edition → not known ≡ true → Told edition kinds plans counts numbers w o (Err refusal.BadOrders) o
+  refuse-edition {known} ek e = told-refused refusal.BadOrders (other-edition (sym ek ∙ not-true known e))
 
   module _ {known : Bool} (ek : known ≡ is_edition edition) (there : not known ≡ false)
       {held : Bool} (eh : held ≡ slices_hold kinds plans counts numbers) where
@@ -89,21 +90,21 @@ module _ (edition : ℕ) (kinds plans counts numbers w o : List ℕ) where
         let rest = write_listed edition (columns_by kinds plans counts numbers) (length w) (length o) in
         rw (← ek, not-false known there) (need-both (long_together kinds plans counts) _ bad_orders rest) ∙ ap (λ (b : Bool). need b bad_orders rest) (sym eh)
 
-    pub refuse-orders : not held ≡ true → Told edition kinds plans counts numbers w o (Err bad_orders) o
-    refuse-orders e = told-refused bad_orders (one-eleven ∙ rw (not-true held e))
+    pub refuse-orders : not held ≡ true → Told edition kinds plans counts numbers w o (Err refusal.BadOrders) o
+    refuse-orders e = told-refused refusal.BadOrders (one-eleven ∙ rw (not-true held e))
 
     pub past-orders : not held ≡ false → PastOrders edition kinds plans counts numbers w o
     past-orders e = record { ordered = ordered kinds plans counts numbers (sym eh ∙ not-false held e); left = one-eleven ∙ rw (not-false held e) }
 
 module _ {edition : ℕ} {kinds plans counts numbers w o : List ℕ} (past : PastOrders edition kinds plans counts numbers w o) where
-  pub refuse-plan : {j : Result (Unit {0}) Refusal} {z : ℕ} → j ≡ Err z → says j ≡ verdict_told (in_turn list_judged 0 (columns_by kinds plans counts numbers))
+  pub refuse-plan : {j : Result (Unit {0}) Refusal} {z : Refusal} → j ≡ Err z → says j ≡ verdict_told (in_turn list_judged 0 (columns_by kinds plans counts numbers))
       → Told edition kinds plans counts numbers w o (Err z) o
   unfolding write_listed
   refuse-plan {j} {z} e ej =
       let ls = columns_by kinds plans counts numbers in
-      told-refused edition kinds plans counts numbers w o z (past.left ∙ after-refused (in_turn list_judged 0 ls) z _ (sym (ap says e) ∙ ej))
+      told-refused edition kinds plans counts numbers w o z (past.left ∙ after-refused (in_turn list_judged 0 ls) (refusal_number z) _ (sym (ap says e) ∙ ej))
 
-  module _ {j : Result (Unit {0}) Refusal} (pj : j ≡ Ok) (ej : says j ≡ verdict_told (in_turn list_judged 0 (columns_by kinds plans counts numbers)))
+  module _ {j : Result (Unit {0}) Refusal} (pj : j ≡ Ok tt) (ej : says j ≡ verdict_told (in_turn list_judged 0 (columns_by kinds plans counts numbers)))
       {rise : Bool} (er : rise ≡ all (list_rises edition) (columns_by kinds plans counts numbers)) where
     past-plans : answer edition kinds plans counts numbers w o
         ≡ need rise fallen (sheet_by edition (columns_by kinds plans counts numbers) (largest counts) (length w) (length o))
@@ -114,17 +115,17 @@ module _ {edition : ℕ} {kinds plans counts numbers w o : List ℕ} (past : Pas
         ∙ ap₂ (λ (b : Bool) (m : ℕ). need b fallen (sheet_by edition ls m (length w) (length o)))
         (sym er) (ap largest (list-lengths kinds plans counts numbers past.ordered.counted past.ordered.whole))
 
-    pub refuse-list : not rise ≡ true → Told edition kinds plans counts numbers w o (Err fallen) o
-    refuse-list e = told-refused edition kinds plans counts numbers w o fallen (past-plans ∙ rw (not-true rise e))
+    pub refuse-list : not rise ≡ true → Told edition kinds plans counts numbers w o (Err refusal.Falls) o
+    refuse-list e = told-refused edition kinds plans counts numbers w o refusal.Falls (past-plans ∙ rw (not-true rise e))
 
     pub past-lists : not rise ≡ false → PastLists edition kinds plans counts numbers w o
     past-lists e = record { ordered = past.ordered; left = past-plans ∙ rw (not-false rise e) }
 
 module _ {edition : ℕ} {kinds plans counts numbers w o : List ℕ} (past : PastLists edition kinds plans counts numbers w o)
     {most : ℕ} (em : most ≡ largest counts) where
-  pub refuse-work : length w < 7 * most → Told edition kinds plans counts numbers w o (Err short_work) o
+  pub refuse-work : length w < 7 * most → Told edition kinds plans counts numbers w o (Err refusal.ShortWork) o
   refuse-work l =
-      told-refused edition kinds plans counts numbers w o short_work (past.left ∙ rw (lt-leb (7 * largest counts) (length w) (omega arith)))
+      told-refused edition kinds plans counts numbers w o refusal.ShortWork (past.left ∙ rw (lt-leb (7 * largest counts) (length w) (omega arith)))
 
   pub past_work : 7 * most ≤ length w → PastWork edition kinds plans counts numbers w o
   past_work l =
@@ -140,17 +141,17 @@ module _ {edition : ℕ} {kinds plans counts numbers w o : List ℕ} (past : Pas
   abbrev bytes : List ℕ
   bytes = sheet_bytes edition (columns_by kinds plans counts numbers)
 
-  pub refuse-large : most_bytes < size → Told edition kinds plans counts numbers w o (Err no_room) o
-  refuse-large l = told-refused edition kinds plans counts numbers w o no_room (past.left ∙ rw (lt-leb (length bytes) most_bytes (laid.over l)))
+  pub refuse-large : most_bytes < size → Told edition kinds plans counts numbers w o (Err refusal.NoRoom) o
+  refuse-large l = told-refused edition kinds plans counts numbers w o refusal.NoRoom (past.left ∙ rw (lt-leb (length bytes) most_bytes (laid.over l)))
 
   module _ (small : size ≤ most_bytes) where
     within : leb (length bytes) most_bytes ≡ true
     within = le-leb (length bytes) most_bytes (omega (arith, (laid.told small).0))
 
-    pub refuse-room : length o < size → Told edition kinds plans counts numbers w o (Err no_room) o
+    pub refuse-room : length o < size → Told edition kinds plans counts numbers w o (Err refusal.NoRoom) o
     refuse-room l =
         let long : length o < length bytes = omega (arith, (laid.told small).0) in
-        told-refused edition kinds plans counts numbers w o no_room (past.left ∙ rw (within, lt-leb (length bytes) (length o) long))
+        told-refused edition kinds plans counts numbers w o refusal.NoRoom (past.left ∙ rw (within, lt-leb (length bytes) (length o) long))
 
     -- the second pass says what the first did
     pub accepted : size ≤ length o → {o' : List ℕ} {end : ℕ} → Laid (sheet_bytes edition (columns_by kinds plans counts numbers)) o o' end

@@ -13,7 +13,7 @@ use Rattle.meaning.specs.Limits.{plan_bytes}
 use Rattle.meaning.specs.Lists.{all, sum}
 use Rattle.meaning.specs.Places.{part}
 use Rattle.meaning.specs.Plan.{judge_plan, plan_used}
-use Rattle.meaning.specs.Says.{says}
+use Rattle.meaning.specs.Says.{refusal_number, says}
 use Rattle.meaning.specs.Sheet.{of_kind}
 use Rattle.table.proofs.InTurn.{PassedBelow, below-turn, below-refuse, below_end}
 use Rattle.table.proofs.Lists.{HoldBelow, hold-turn, hold-fail, hold-end}
@@ -25,14 +25,14 @@ use Rattle.writer.proofs.Sums.{start-next, list-within}
 pub record JudgedBelow (kinds plans : List ℕ) (k : ℕ) : Type 0 where
   pub below : (counts numbers : List ℕ) → PassedBelow list_judged (columns_by kinds plans counts numbers) k
 
-abbrev pub JudgedAs : List ℕ → List ℕ → Judged → Type 0
+abbrev pub JudgedAs : List ℕ → List ℕ → Result (Unit {0}) Refusal → Type 0
 JudgedAs kinds plans r = (counts numbers : List ℕ) → says r ≡ verdict_told (in_turn list_judged 0 (columns_by kinds plans counts numbers))
 
 pub judged-start : {kinds plans : List ℕ} → JudgedBelow kinds plans 0
 judged-start = record { below = λ counts numbers. refl }
 
 module _ {kinds plans : List ℕ} {k : ℕ} (so : JudgedBelow kinds plans k) where
-  pub judged-end : length kinds ≤ k → JudgedAs kinds plans Ok
+  pub judged-end : length kinds ≤ k → JudgedAs kinds plans (Ok tt)
   judged-end h counts numbers =
       let ls = columns_by kinds plans counts numbers in
       ap verdict_told (sym (below_end list_judged ls k (so.below counts numbers) (omega (arith, column-count kinds plans counts numbers))))
@@ -46,7 +46,7 @@ module _ {kinds plans : List ℕ} {k : ℕ} (so : JudgedBelow kinds plans k) whe
     in-columns : (counts numbers : List ℕ) → k < length (columns_by kinds plans counts numbers)
     in-columns counts numbers = omega (arith, column-count kinds plans counts numbers)
 
-    pub judged-turn : {r : Result (Unit {0}) Refusal} → says r ≡ judge_plan (get_or kinds k 0) plan → r ≡ Ok → JudgedBelow kinds plans (k + 1)
+    pub judged-turn : {r : Result (Unit {0}) Refusal} → says r ≡ judge_plan (get_or kinds k 0) plan → r ≡ Ok tt → JudgedBelow kinds plans (k + 1)
     judged-turn {r} is e =
         record {
           below = λ counts numbers.
@@ -55,11 +55,11 @@ module _ {kinds plans : List ℕ} {k : ℕ} (so : JudgedBelow kinds plans k) whe
         }
 
     pub judged-refuse : {r : Result (Unit {0}) Refusal} → says r ≡ judge_plan (get_or kinds k 0) plan
-        → {z : ℕ} → r ≡ Err z → JudgedAs kinds plans (Err z)
+        → {z : Refusal} → r ≡ Err z → JudgedAs kinds plans (Err z)
     judged-refuse {r} is {z} e counts numbers =
         ap verdict_told
         (sym (below-refuse list_judged (columns_by kinds plans counts numbers) blank_listed k (so.below counts numbers) (in-columns counts numbers)
-        z (judged-here r is counts numbers ∙ ap says e)))
+        (refusal_number z) (judged-here r is counts numbers ∙ ap says e)))
 
 -- ---- lists: those below k are of their kinds, and the next begins at `from`
 pub record RisingBelow (edition : ℕ) (kinds counts numbers : List ℕ) (from k : ℕ) : Type 0 where
