@@ -84,9 +84,9 @@ pub extern "C" fn pelluvion_check(sheet: &[u8], work: &mut [u32], column: &mut u
             *column = 0;
             ACCEPTED
         }
-        Err(f) => {
-            *column = f.column;
-            u32::from(f.refusal)
+        Err(fault) => {
+            *column = fault.column;
+            u32::from(fault.refusal)
         }
     }
 }

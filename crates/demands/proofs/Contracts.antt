@@ -12,6 +12,7 @@ use types.Logic.{Logic}
 use seplogic.Ra.Ura.{Ura}
 use prog.Memory.{Memory}
 use prog.Routine.{Routine}
+use Rattle.meaning.specs.Says.{held}
 use Rattle.bits.specs.contracts.rank as rank
 use Rattle.bits.specs.contracts.select as select
 use Rattle.judge.specs.contracts.judge as judge
@@ -76,12 +77,12 @@ module _ {M : Type 1} {𝓤 : Ura M} (𝓛 : Logic 𝓤) (mem : Memory → SProp
   pub counting : board.spec 𝓛 mem run ≡ ensuring board.ended (λ κs a r s. Counts a.0.now a.1.0.now r)
   counting = refl
 
-  -- fetch(sheet, column, refusal)
-  pub fetching : fetch.spec 𝓛 mem run ≡ ensuring fetch.ended (λ κs a r s. Fetches a.0.now a.1.0 (r.now, s.1.1.0.now))
+  -- fetch(sheet, column)
+  pub fetching : fetch.spec 𝓛 mem run ≡ ensuring fetch.ended (λ κs a r s. Fetches a.0.now a.1.0 (held r))
   fetching = refl
 
-  -- open(sheet, column, refusal)
-  pub opening : open-reader.spec 𝓛 mem run ≡ ensuring open-reader.ended (λ κs a r s. Opens a.0.now a.1.0 (standing r, s.1.1.0.now))
+  -- open(sheet, column)
+  pub opening : open-reader.spec 𝓛 mem run ≡ ensuring open-reader.ended (λ κs a r s. Opens a.0.now a.1.0 (standing r.0, r.1))
   opening = refl
 
   -- step(r)

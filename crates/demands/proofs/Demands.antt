@@ -26,9 +26,9 @@ use Rattle.stages.proofs.Overruns.{cut-before, broken-behind, stays-broken}
 use Rattle.table.proofs.ColumnLaws.{column-here, column-there}
 use Rattle.table.proofs.Unique.{one-fetch}
 use Rattle.sheet.proofs.Unique.{one-check, one-read, one-lookup, one-board}
-use Rattle.reader.specs.Steps.{Standing, answer, next_place, standing, moved}
+use Rattle.reader.specs.Steps.{Standing, answer, next_place, standing, moved, refusal_told}
 use Rattle.reader.specs.declared.Reader.{Reader}
-use Rattle.reader.proofs.Unique.{one-step}
+use Rattle.reader.proofs.Unique.{one-step, refusal-same}
 use Rattle.demands.specs.Promises.{Checks, Counts, Fetches, Opens, Steps}
 use Rattle.demands.specs.Demands.{Demand1, Demand2, Demand3, Sorts}
 use Rattle.demands.specs.Own.{own_orders, own_numbers, own_kinds, own_plans, own_counts}
@@ -45,7 +45,7 @@ use Rattle.demands.proofs.Rewritten.{apart-is, same-sheet, same-apart}
 -- a refused board has no tallies
 bare-board : (r : Result Tally Fault) → 0 < refusal (counted_says r).0 → (counted_says r).1 ≡ no_tally
 bare-board (Ok t) h = absurd (omega arith)
-bare-board (Err e k) h = refl
+bare-board (Err e) h = refl
 
 -- a reader whose call is refused stays where it stands
 stays : (m : Answer ℕ) (place : ℕ) → 0 < number m → next_place m place ≡ place
@@ -86,22 +86,22 @@ demand-1 =
       looking = λ sheet k place.
           by_answer (1 ∷ 2 ∷ 3 ∷ 4 ∷ 5 ∷ 6 ∷ 9 ∷ 13 ∷ []) refl says (look_sheet sheet k place) (lookup-refusals sheet k place) (one-lookup sheet k place);
       fetching = λ sheet k.
-          by_number (1 ∷ 2 ∷ 3 ∷ 4 ∷ 5 ∷ []) refl (Fetches sheet k) (λ a. a.1) (fetch sheet k) (λ a. a.0 ≡ []) (fetch-refusals sheet k)
-          (λ a b s t. both a b (one-fetch sheet k a.0 b.0 a.1 b.1 s t)) (λ a t. t.1) (λ a t l. t.0 ∙ refused-empty (fetch sheet k) l);
+          by_number (1 ∷ 2 ∷ 3 ∷ 4 ∷ 5 ∷ []) refl (Fetches sheet k) (λ r. number (says r)) (fetch sheet k) (λ r. list (says r) ≡ []) (fetch-refusals sheet k)
+          (one-fetch sheet k) (λ r t. ap number t) (λ r t l. ap list t ∙ refused-empty (fetch sheet k) l);
       counting = λ sheet work.
           by-verdict (1 ∷ 2 ∷ 3 ∷ 4 ∷ 8 ∷ 9 ∷ 12 ∷ 13 ∷ []) refl (Counts sheet work) (λ r. refusal (counted_says r).0) (count_board sheet (length work)).0
           (λ r. (counted_says r).1 ≡ no_tally) (board-refusals sheet (length work)) (one-board sheet (length work)) (λ r t. ap (λ x. refusal x.0) t)
           (λ r t l. bare-board r l);
       opening = λ sheet k.
-          by_number (1 ∷ 2 ∷ 3 ∷ 4 ∷ 5 ∷ []) refl (Opens sheet k) (λ a. a.1) (open_reader sheet k) (λ a. a.0.part ≡ []) (open-refusals sheet k)
-          (λ a b s t. both a b (s.0 ∙ sym t.0, s.1 ∙ sym t.1)) (λ a t. t.1)
+          by_number (1 ∷ 2 ∷ 3 ∷ 4 ∷ 5 ∷ []) refl (Opens sheet k) (λ a. refusal_told a.1) (open_reader sheet k) (λ a. a.0.part ≡ []) (open-refusals sheet k)
+          (λ a b s t. both a b (s.0 ∙ sym t.0, refusal-same a.1 b.1 (s.1 ∙ sym t.1))) (λ a t. t.1)
           (λ a t l. ap (λ (s : Standing). s.part) t.0 ∙ refused-empty (open_reader sheet k) l);
       stepping = λ r.
           by_number (1 ∷ 2 ∷ 3 ∷ 4 ∷ 5 ∷ 6 ∷ 9 ∷ 13 ∷ []) refl (Steps r) (λ a. number (says a.0)) (answer (standing r)) (λ a. a.1 ≡ r)
           (lookup-refusals (standing r).part (standing r).column (standing r).place)
           (λ a b s t. both a b (one-step r a.1 b.1 a.0 b.0 s t)) (λ a t. ap number t.0) (λ a t l. t.1 ∙ stands-still r l);
       ranking = λ bytes bit. by_answer (1 ∷ 6 ∷ []) refl says (rank bytes bit) (rank-refusals bytes bit) (one_rank bytes bit);
-      selecting = λ bytes k. by_answer (1 ∷ 6 ∷ []) refl says_by bit_told (select bytes k) (select-refusals bytes k) (one-select bytes k);
+      selecting = λ bytes k. by_answer (1 ∷ 6 ∷ []) refl (says_by bit_told) (select bytes k) (select-refusals bytes k) (one-select bytes k);
     }
 
 -- ---- demand 2

@@ -2,7 +2,7 @@
 -- Assumes nothing.
 use Rattle.meaning.specs.declared.Refusal.{Refusal}
 use Rattle.meaning.specs.declared.Fault.{Fault}
-use Rattle.std.specs.Prelude.{Result, Ok}
+use Rattle.std.specs.Prelude.{Result, Ok, Option, None}
 use Prim.Native.Nat.{ℕ, zero, suc, ◌*◌, ◌≤◌, ◌<◌}
 use mathlib.Core.Path.{◌≡◌, refl, sym, ap, ◌∙◌, subst}
 use mathlib.Core.Bool.{true}
@@ -24,7 +24,7 @@ use Rattle.reader.specs.Steps.{opened, after, standing, moved}
 use Rattle.reader.specs.declared.Reader.{Reader}
 use Rattle.reader.proofs.Calls.{stands-first, stands-next, tells-call}
 use Rattle.reader.proofs.Openings.{open-there}
-use Rattle.reader.proofs.Unique.{one-call}
+use Rattle.reader.proofs.Unique.{one-call, refusal-same}
 use Rattle.demands.specs.Promises.{Writes, Checks, Reads, Looks, Opens, Steps}
 use Rattle.demands.specs.Demands.{Within, Holds, Carries}
 use Rattle.demands.proofs.Accepted.{all-writable, few-columns, NeverStuck, never_stuck}
@@ -49,7 +49,7 @@ module _ (sheet : List ℕ) (bytes : Below 256 sheet) (check_work : ℕ) (passes
   looks place h r e = one-lookup sheet k place r (Ok (get_or xs place 0)) e
       (sym (looks-all sheet bytes check_work passes k there place (omega (arith, many))))
 
-  reads : (work o : List ℕ) → 7 * length xs ≤ length work → length xs ≤ length o → (a : Reading × List ℕ) → Reads sheet k work o a
+  reads : (work o : List ℕ) → 7 * length xs ≤ length work → length xs ≤ length o → (a : Result ℕ Refusal × List ℕ) → Reads sheet k work o a
       → a ≡ (Ok (length xs), xs ++ drop (length xs) o)
   reads work o enough fits a t =
       let e = reads_all sheet bytes check_work passes k there (length work) (length o) (omega (arith, many)) (omega (arith, many)) in
@@ -60,8 +60,8 @@ module _ (sheet : List ℕ) (bytes : Below 256 sheet) (check_work : ℕ) (passes
   opening : open_reader sheet k ≡ given sheet
   opening = open-there sheet k (column_at sheet k) (column-there sheet k (check-passed sheet check_work passes).ready.sounds there)
 
-  opens : (reader : Reader) (e : ℕ) → Opens sheet k (standing reader, e) → e ≡ 0
-  opens reader e t = t.1 ∙ ap number opening
+  opens : (reader : Reader) (e : Option Refusal) → Opens sheet k (standing reader, e) → e ≡ None
+  opens reader e t = refusal-same e None (t.1 ∙ ap number opening)
 
   -- each call of a reader, while places last, gives the number of the defined reading
   calls-over : (n : ℕ) → n < length xs → call_over sheet k n ≡ given (get_or xs n 0)
@@ -80,7 +80,7 @@ module _ (sheet : List ℕ) (bytes : Below 256 sheet) (check_work : ℕ) (passes
   stands readers (suc n) first moves =
       ap standing (moves n (omega arith)) ∙ stands-next sheet k n (readers n) (stands readers n first (λ i h. moves i (omega arith)))
 
-  calls : (readers : ℕ → Reader) (answers : ℕ → Found) (e n : ℕ) → Opens sheet k (standing (readers 0), e)
+  calls : (readers : ℕ → Reader) (answers : ℕ → Result ℕ Refusal) (e : Option Refusal) (n : ℕ) → Opens sheet k (standing (readers 0), e)
       → ((i : ℕ) → i ≤ n → Steps (readers i) (answers i, readers (suc i))) → n < length xs → answers n ≡ Ok (get_or xs n 0)
   calls readers answers e n t steps h =
       let here = stands readers n t.0 (λ i l. (steps i (omega arith)).1) in
@@ -124,12 +124,12 @@ module _ (edition : ℕ) (orders : List Order) (joined work o : List ℕ) (w : W
       subst (Holds sheet k) (list_back edition ls writable k (omega (arith, listed-count orders joined)))
       (holds-it sheet bytes (8 * largest_count sheet) (passes (8 * largest_count sheet) (omega arith)) k (omega (arith, many-columns)))
 
-  module _ (a : Sized × List ℕ) (t : Writes edition orders joined work o a) where
+  module _ (a : Result ℕ Refusal × List ℕ) (t : Writes edition orders joined work o a) where
     answered : a ≡ (Ok (length sheet), sheet ++ drop (length sheet) o)
     answered = filled-with (write_sheet edition orders joined (length work) (length o)) sheet o a stuck.written t
 
     is : sheet ≡ take (length sheet) a.1
-    is = sym (ap (λ (b : Sized × List ℕ). take (length sheet) b.1) answered ∙ first-filled o sheet)
+    is = sym (ap (λ (b : Result ℕ Refusal × List ℕ). take (length sheet) b.1) answered ∙ first-filled o sheet)
 
     first_byte : edition_of sheet ≡ edition
     unfolding sheet_bytes assemble
@@ -139,11 +139,11 @@ module _ (edition : ℕ) (orders : List Order) (joined work o : List ℕ) (w : W
     carries =
         record {
           size = length sheet;
-          written = ap (λ (b : Sized × List ℕ). b.0) answered;
+          written = ap (λ (b : Result ℕ Refusal × List ℕ). b.0) answered;
           most = stuck.within;
           made = sym (ap edition_of is) ∙ first_byte;
           bytes = subst (Below 256) is bytes;
-          passes = subst (λ (s : List ℕ). (work : List ℕ) → 8 * largest_count s ≤ length work → (r : Result (Unit {0}) Fault) → Checks s work r → r ≡ Ok) is
-              (λ v h r c. one-check sheet (length v) r Ok c (sym (passes (length v) h)));
+          passes = subst (λ (s : List ℕ). (work : List ℕ) → 8 * largest_count s ≤ length work → (r : Result (Unit {0}) Fault) → Checks s work r → r ≡ Ok tt) is
+              (λ v h r c. one-check sheet (length v) r (Ok tt) c (sym (passes (length v) h)));
           holds = λ k h. subst (λ (s : List ℕ). Holds s k (get_or ls k blank_listed).numbers) is (holds k h);
         }

@@ -1,5 +1,6 @@
 -- What a call answers and what its output holds afterwards: what was given, and not a place more; after a refusal, what it held. Assumes nothing.
-use Rattle.std.specs.Prelude.{Ok}
+use Rattle.std.specs.Prelude.{Result, Ok}
+use Rattle.meaning.specs.declared.Refusal.{Refusal}
 use Prim.Native.Nat.{ℕ}
 use mathlib.Core.Path.{◌≡◌, refl, ap, ◌∙◌}
 use mathlib.Core.List.{List, ◌++◌}
@@ -26,7 +27,7 @@ pub both : {A B : Type 0} (a b : A × B) → (a.0 ≡ b.0) × (a.1 ≡ b.1) → 
 both a b h = λ i. (h.0 i, h.1 i)
 
 -- a writer that is to give these bytes says how many they are, and its output begins with them
-pub filled-with : (m : Answer (List ℕ)) (bytes o : List ℕ) (a : Sized × List ℕ) → m ≡ given bytes → Fills m o (says a.0) a.1
+pub filled-with : (m : Answer (List ℕ)) (bytes o : List ℕ) (a : Result ℕ Refusal × List ℕ) → m ≡ given bytes → Fills m o (says a.0) a.1
     → a ≡ (Ok (length bytes), bytes ++ drop (length bytes) o)
 filled-with m bytes o a e t =
     both a (Ok (length bytes), bytes ++ drop (length bytes) o)

@@ -15,7 +15,7 @@ use Rattle.reader.specs.declared.FirstThree.{FirstThree}
 use Rattle.reader.proofs.Calls.{call-after}
 
 -- the part, the column and the place that the reader stands on, and the refusal
-refusal-same : (e f : Option Refusal) → refusal_told e ≡ refusal_told f → e ≡ f
+pub refusal-same : (e f : Option Refusal) → refusal_told e ≡ refusal_told f → e ≡ f
 refusal-same None None h = refl
 refusal-same None (Some f) h = absurd (some-number f (sym h))
 refusal-same (Some e) None h = absurd (some-number e h)

@@ -7,7 +7,7 @@ use mathlib.Core.List.{List, []}
 use lib.ListN.{length}
 use Rattle.meaning.specs.Answer.{Verdict, blamed}
 use Rattle.meaning.specs.Operations.{count_board}
-use Rattle.meaning.specs.Says.{counted_says}
+use Rattle.meaning.specs.Says.{refusal_number, counted_says}
 use Rattle.meaning.specs.Texts.{all_work, refused_or, board_lines, board_text}
 use Rattle.meaning.specs.declared.Tally.{Tally}
 
@@ -20,6 +20,6 @@ module _ (sheet work : List ℕ) (all : length work ≡ all_work) (r : Result Ta
   unfolding refused_or
   board-tallies e = by_answer _ (ap counted_says e)
 
-  pub board-refused : {e k : ℕ} → r ≡ Err e k → refused_or (blamed e k) [] ≡ board_text sheet
+  pub board-refused : {f : Fault} → r ≡ Err f → refused_or (blamed (refusal_number f.refusal) f.column) [] ≡ board_text sheet
   unfolding refused_or
   board-refused e = by_answer _ (ap counted_says e)

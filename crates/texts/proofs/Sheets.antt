@@ -10,7 +10,7 @@ use Rattle.meaning.specs.Answer.{Verdict, passed, blamed}
 use Rattle.meaning.specs.Limits.{most_columns}
 use Rattle.meaning.specs.Operations.{check}
 use Rattle.meaning.specs.Places.{Wrote}
-use Rattle.meaning.specs.Says.{verdict_says}
+use Rattle.meaning.specs.Says.{refusal_number, verdict_says}
 use Rattle.meaning.specs.Sheet.{columns_of, column_at, column_count}
 use Rattle.meaning.specs.Texts.{text, digits, line, all_work, refused_or, counting, column_lines, listing_lines, listing_text}
 use Rattle.meaning.specs.declared.Offset.{Offset}
@@ -87,13 +87,13 @@ module _ (sheet work : List ℕ) (all : length work ≡ all_work) (r : Result (U
   so : (v : Verdict) → verdict_says r ≡ v → check sheet all_work ≡ v
   so v e = sym (ap (check sheet) all) ∙ sym told ∙ e
 
-  pub listing-passes : r ≡ Ok → check sheet all_work ≡ passed
+  pub listing-passes : r ≡ Ok tt → check sheet all_work ≡ passed
   listing-passes e = so passed (ap verdict_says e)
 
-  pub listing-lines : r ≡ Ok → listing_lines (columns_of sheet) ≡ listing_text sheet
+  pub listing-lines : r ≡ Ok tt → listing_lines (columns_of sheet) ≡ listing_text sheet
   unfolding listing_text refused_or
   listing-lines e = ap (λ (v : Verdict). refused_or v (listing_lines (columns_of sheet))) (sym (listing-passes e))
 
-  pub listing-refused : {e k : ℕ} → r ≡ Err e k → refused_or (blamed e k) [] ≡ listing_text sheet
+  pub listing-refused : {f : Fault} → r ≡ Err f → refused_or (blamed (refusal_number f.refusal) f.column) [] ≡ listing_text sheet
   unfolding listing_text refused_or
   listing-refused e = ap (λ (v : Verdict). refused_or v (listing_lines (columns_of sheet))) (sym (so (blamed _ _) (ap verdict_says e)))

@@ -4,8 +4,8 @@ use Rattle.meaning.specs.Says.{verdict_says}
 use Rattle.capi.proofs.Tellings.{blames}
 use Rattle.capi.proofs.pelluvion_check.Goals as goal
 
-pub returns-in-Passed : goal.returns-in-Passed
-returns-in-Passed c = blames _ _ _ (ap verdict_says (sym c.in-Passed.is) ∙ c.check-checked.ensures) refl
+pub returns-in-Ok : goal.returns-in-Ok
+returns-in-Ok c = blames _ _ _ (ap verdict_says (sym c.in-Ok.is) ∙ c.check.ensures) refl
 
-pub returns-in-Refused : goal.returns-in-Refused
-returns-in-Refused c = blames _ _ _ (ap verdict_says (sym c.in-Refused.is) ∙ c.check-checked.ensures) c.wide.ensures.0
+pub returns-in-Err : goal.returns-in-Err
+returns-in-Err c = blames _ _ _ (ap verdict_says (sym c.in-Err.is) ∙ c.check.ensures) c.from.ensures

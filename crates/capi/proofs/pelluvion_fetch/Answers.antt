@@ -1,16 +1,15 @@
 -- `pelluvion_fetch` tells where the body stands that the entry names. Assumes nothing.
-use Rattle.table.proofs.ColumnLaws.{opened-by, refused-by}
 use Rattle.capi.proofs.Bodies.{fetches-body, fetches-none}
 use Rattle.capi.proofs.pelluvion_fetch.Goals as goal
 
-pub returns-in-At : goal.returns-in-At
-returns-in-At c =
+pub returns-in-Ok : goal.returns-in-Ok
+returns-in-Ok c =
     let sheet = c.args.sheet.now in
     let column = c.args.column in
-    fetches-body sheet column _ (opened-by sheet column _ _ c.column_at-found.ensures c.in-At.is)
+    fetches-body sheet column _ (rw c.in-Ok.is at c.column_at.ensures)
 
-pub returns-in-Refused : goal.returns-in-Refused
-returns-in-Refused c =
+pub returns-in-Err : goal.returns-in-Err
+returns-in-Err c =
     let sheet = c.args.sheet.now in
     let column = c.args.column in
-    fetches-none sheet column _ _ (refused-by sheet column _ _ c.column_at-found.ensures c.in-Refused.is) c.wide.ensures.0
+    fetches-none sheet column _ _ (rw c.in-Err.is at c.column_at.ensures) c.from.ensures

@@ -4,12 +4,12 @@ use Rattle.meaning.specs.Answer.{number}
 use Rattle.meaning.specs.Says.{says}
 use Rattle.capi.proofs.pelluvion_judge.Goals as goal
 
-pub returns-in-Passed : goal.returns-in-Passed
-returns-in-Passed c =
-    let so = sym c.judge-judged.ensures ∙ ap says c.in-Passed.is in
+pub returns-in-Ok : goal.returns-in-Ok
+returns-in-Ok c =
+    let so = sym c.judge.ensures ∙ ap says c.in-Ok.is in
     sym (ap number so)
 
-pub returns-in-Refused : goal.returns-in-Refused
-returns-in-Refused c =
-    let so = sym c.judge-judged.ensures ∙ ap says c.in-Refused.is in
-    c.wide.ensures.0 ∙ sym (ap number so)
+pub returns-in-Err : goal.returns-in-Err
+returns-in-Err c =
+    let so = sym c.judge.ensures ∙ ap says c.in-Err.is in
+    c.from.ensures ∙ sym (ap number so)

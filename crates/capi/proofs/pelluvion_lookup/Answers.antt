@@ -4,8 +4,8 @@ use Rattle.meaning.specs.Says.{says}
 use Rattle.capi.proofs.Tellings.{tells-given, tells-refused}
 use Rattle.capi.proofs.pelluvion_lookup.Goals as goal
 
-pub returns-in-Number : goal.returns-in-Number
-returns-in-Number c = tells-given _ _ (ap says (sym c.in-Number.is) ∙ c.lookup-found.ensures)
+pub returns-in-Ok : goal.returns-in-Ok
+returns-in-Ok c = tells-given _ _ (ap says (sym c.in-Ok.is) ∙ c.lookup.ensures)
 
-pub returns-in-Refused : goal.returns-in-Refused
-returns-in-Refused c = tells-refused _ _ _ (ap says (sym c.in-Refused.is) ∙ c.lookup-found.ensures) c.wide.ensures.0
+pub returns-in-Err : goal.returns-in-Err
+returns-in-Err c = tells-refused _ _ _ (ap says (sym c.in-Err.is) ∙ c.lookup.ensures) c.from.ensures

@@ -4,8 +4,8 @@ use Rattle.meaning.specs.Says.{says}
 use Rattle.capi.proofs.Tellings.{tells-given, tells-refused}
 use Rattle.capi.proofs.pelluvion_worst.Goals as goal
 
-pub returns-in-Bytes : goal.returns-in-Bytes
-returns-in-Bytes c = tells-given _ _ (ap says (sym c.in-Bytes.is) ∙ c.worst_size-sized.ensures)
+pub returns-in-Ok : goal.returns-in-Ok
+returns-in-Ok c = tells-given _ _ (ap says (sym c.in-Ok.is) ∙ c.worst_size.ensures)
 
-pub returns-in-Refused : goal.returns-in-Refused
-returns-in-Refused c = tells-refused _ _ _ (ap says (sym c.in-Refused.is) ∙ c.worst_size-sized.ensures) c.wide.ensures.0
+pub returns-in-Err : goal.returns-in-Err
+returns-in-Err c = tells-refused _ _ _ (ap says (sym c.in-Err.is) ∙ c.worst_size.ensures) c.from.ensures

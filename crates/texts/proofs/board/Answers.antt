@@ -4,14 +4,14 @@ use Rattle.texts.proofs.Boards.{board-tallies, board-refused}
 use Rattle.texts.proofs.Putting.{widened, written}
 use Rattle.texts.proofs.board.Goals as goal
 
-pub returns-in-Tallies : goal.returns-in-Tallies
-returns-in-Tallies c =
+pub returns-in-Ok : goal.returns-in-Ok
+returns-in-Ok c =
     let a = c.args in
-    let is = board-tallies a.sheet.now a.work.now c.requires _ c.board-counted.ensures c.in-Tallies.is in
-    written is c.put_tally-end.ensures
+    let is = board-tallies a.sheet.now a.work.now c.requires _ c.board.ensures c.in-Ok.is in
+    written is c.put_tally.ensures
 
-pub returns-in-Refused : goal.returns-in-Refused
-returns-in-Refused c =
+pub returns-in-Err : goal.returns-in-Err
+returns-in-Err c =
     let a = c.args in
-    let is = board-refused a.sheet.now a.work.now c.requires _ c.board-counted.ensures c.in-Refused.is in
-    written is (widened c.put_refused-end.ensures (omega arith))
+    let is = board-refused a.sheet.now a.work.now c.requires _ c.board.ensures c.in-Err.is in
+    written is (widened c.put_refused.ensures (omega arith))

@@ -5,20 +5,20 @@ use Rattle.texts.proofs.Putting.{widened, written}
 use Rattle.texts.proofs.Sheets.{listing-passes, listing-lines, listing-refused}
 use Rattle.texts.proofs.listing.Goals as goal
 
-pub put_sheet-end-requires : goal.put_sheet-end-requires
-put_sheet-end-requires c =
+pub put_sheet-requires : goal.put_sheet-requires
+put_sheet-requires c =
     let a = c.args in
-    let passes = listing-passes a.sheet.now a.work.now c.requires.0 _ c.check-checked.ensures c.in-Passed.is in
-    (record { passes = passes; works = c.check-checked.auto.work ∙ c.requires.0; lists = c.requires.1 }, omega arith)
+    let passes = listing-passes a.sheet.now a.work.now c.requires.0 _ c.check.ensures c.in-Ok.is in
+    (record { passes = passes; works = c.check.auto.work ∙ c.requires.0; lists = c.requires.1 }, omega arith)
 
-pub returns-in-Passed : goal.returns-in-Passed
-returns-in-Passed c =
+pub returns-in-Ok : goal.returns-in-Ok
+returns-in-Ok c =
     let a = c.args in
-    let is = listing-lines a.sheet.now a.work.now c.requires.0 _ c.check-checked.ensures c.in-Passed.is in
-    written is c.put_sheet-end.ensures
+    let is = listing-lines a.sheet.now a.work.now c.requires.0 _ c.check.ensures c.in-Ok.is in
+    written is c.put_sheet.ensures
 
-pub returns-in-Refused : goal.returns-in-Refused
-returns-in-Refused c =
+pub returns-in-Err : goal.returns-in-Err
+returns-in-Err c =
     let a = c.args in
-    let is = listing-refused a.sheet.now a.work.now c.requires.0 _ c.check-checked.ensures c.in-Refused.is in
-    written is (widened c.put_refused-end.ensures (omega arith))
+    let is = listing-refused a.sheet.now a.work.now c.requires.0 _ c.check.ensures c.in-Err.is in
+    written is (widened c.put_refused.ensures (omega arith))
