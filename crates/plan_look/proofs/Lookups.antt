@@ -1,14 +1,14 @@
 -- One number by a plan, stage by stage: what each inner call is asked, and what its answer makes. Assumes nothing.
 use Prim.Native.Nat.{ℕ, zero, suc, ◌+◌, ◌-◌, ◌*◌, ◌≤◌, ◌<◌, min}
-use mathlib.Core.Path.{◌≡◌, sym, ap, ◌∙◌, fun_ext}
-use mathlib.Core.Bool.{cond}
+use mathlib.Core.Path.{◌≡◌, refl, sym, ap, ◌∙◌, fun_ext}
+use mathlib.Core.Bool.{false, cond}
 use mathlib.Core.List.{List}
 use native.Mathlib.Nat.{zero-add}
 use native.Mathlib.Omega.{arith}
-use lib.Dec.{ltb, eqb}
-use borrow.Author.Tests.{lt-ltb, le-ltb}
+use lib.Dec.{eqb}
+use Rattle.std.specs.Prelude.{Result, Ok, Err}
 use lib.ListN.{length, get_or, take, drop}
-use lib.Seq.{take_all}
+use lib.Seq.{take_all, length-take-le, get_or-take}
 use Rattle.meaning.specs.Answer.{Answer, given, refused, bind, number}
 use Rattle.meaning.specs.Bytes.{word_at}
 use Rattle.meaning.specs.Codes.{code_of, look_code}
@@ -16,6 +16,9 @@ use Rattle.meaning.specs.Limits.{cut_short, broken}
 use Rattle.meaning.specs.Plan.{Plan, bad, code, reference, differences, runs, plan_at, plan_size}
 use Rattle.meaning.specs.Stages.{within, seek, look, numbers_through}
 use Rattle.meaning.specs.declared.Place.{Place}
+use Rattle.meaning.specs.declared.Refusal.{Refusal}
+use Rattle.meaning.specs.Says.{refusal_number, says}
+use Rattle.meaning.specs.declared.Refusal.TheVariants as refusal
 use Rattle.meaning.proofs.Tests.{by_order}
 use Rattle.codes.specs.Firsts.{Firsts, Looked, total}
 use Rattle.codes.specs.declared.First.{First}
@@ -29,12 +32,28 @@ use Rattle.codes.proofs.Totals.{total-stops, total-numbers}
 use Rattle.stages.proofs.Faults.{through-faulty}
 use Rattle.stages.proofs.Through.{through-all, differences-later}
 use Rattle.stages.proofs.Seeks.{seek-below, seek-stops, seek-none}
-use Rattle.plan_look.specs.Turns.{run_of}
+use Rattle.plan_look.specs.Turns.{stop_of, run_of}
 use Rattle.plan_look.proofs.Looks.{bad-at, code_at, reference-short, reference-at, runs-refused, runs-at}
 
 -- what an answer says, by the case that it is
 pub says_so : {T A : Type 0} (says : T → Answer A) {r r' : T} {a : Answer A} → says r ≡ a → r ≡ r' → a ≡ says r'
 says_so says e q = sym e ∙ ap says q
+
+-- no refusal's number says that nothing is refused
+number-some : (e : Refusal) → eqb (refusal_number e) 0 ≡ false
+number-some refusal.NoSheet = refl
+number-some refusal.BadTable = refl
+number-some refusal.Malformed = refl
+number-some refusal.Unfit = refl
+number-some refusal.NoColumn = refl
+number-some refusal.NoPlace = refl
+number-some refusal.NoRoom = refl
+number-some refusal.ShortWork = refl
+number-some refusal.CutShort = refl
+number-some refusal.Falls = refl
+number-some refusal.BadOrders = refl
+number-some refusal.BadBoard = refl
+number-some refusal.Broken = refl
 
 -- ---- the work that a lookup lays out for itself
 room-two : (l n : ℕ) → l ≤ 2 → room l n ≤ 5 * n
@@ -51,25 +70,39 @@ look-fits s {l} {many} h m e = record { short = s.short; few = omega (arith, s.f
 module _ (at : ℕ → Answer ℕ) (n place many few : ℕ) (w w' : List ℕ) (got : First) (e : few ≡ min many (place + 1))
     (f : Firsts at few 0 w w' got) where
   sought-on : (s : Place) → got.count ≤ s.number → s.number ≤ place → seek at n place (many - got.count) (0 + got.count) s.number
-      ≡ refused (cond (ltb got.count many) got.refusal broken)
+      ≡ refused (refusal_number (stop_of got.stop))
   sought-on s a b =
       by_order got.count many
-      (λ h. rw (lt-ltb _ _ h)
-      (seek-stops at n place (many - got.count) (0 + got.count) s.number (omega arith) got.refusal
-      (rw (zero-add got.count) (f.stops (omega arith)))))
-      (λ h. rw (le-ltb _ _ h) (seek-none at n place (many - got.count) (0 + got.count) s.number (omega arith)))
+      (λ h. let (z, q, r) = f.stops (omega arith) in
+      rw q (seek-stops at n place (many - got.count) (0 + got.count) s.number (omega arith) _ (rw (zero-add got.count) r)))
+      (λ h. rw (f.all (omega (arith, f.most))) (seek-none at n place (many - got.count) (0 + got.count) s.number (omega arith)))
 
-  pub run-sought : (r : Sought) → Seeks w' got.count n place 0 r → run_of many got r ≡ seek at n place many 0 0
-  run-sought r s =
-      let told = s.told at many 0 (λ i h. ap at (zero-add i) ∙ f.are i h ∙ ap (λ (x : ℕ). given (get_or w' x 0)) (zero-add i))
-      (omega (arith, f.most)) in
-      by-sought r s.within told
-    where
-      by-sought : (r : Sought) → Within got.count n place 0 r → seek at n place many 0 0 ≡ sought_from at n place many 0 got.count r
-          → run_of many got r ≡ seek at n place many 0 0
-      by-sought (sought.At j) h t = ap (λ (k : ℕ). given k) (sym (zero-add j.number)) ∙ sym t
-      by-sought (sought.After s) h t = sym (t ∙ sought-on s (omega (arith, h.1)) (h.2 (omega arith)))
-      by-sought (sought.Refused z) h t = sym t
+  module _ (room : got.count ≤ length w') {r : Result Sought Refusal} (s : Seeks (take got.count w') n place 0 r) where
+    size : length (take got.count w') ≡ got.count
+    size = length-take-le got.count w' room
+
+    on-sought : seek at n place many 0 0 ≡ sought_from at n place many 0 got.count r
+    on-sought =
+        s.told at many 0
+        (λ i h. let b : i < got.count = omega (arith, size) in
+        ap at (zero-add i) ∙ f.are i b ∙ ap (λ (x : ℕ). given (get_or w' x 0)) (zero-add i)
+        ∙ ap (λ (x : ℕ). given x) (sym (get_or-take got.count w' i 0 b)))
+        (omega (arith, size, f.most))
+        ∙ ap (λ (k : ℕ). sought_from at n place many 0 k r) size
+
+    -- a length breaks a rule
+    pub sought-fault : {z : Refusal} → r ≡ Err z → refused (refusal_number z) ≡ seek at n place many 0 0
+    sought-fault q = sym (on-sought ∙ ap (sought_from at n place many 0 got.count) q)
+
+    pub run-sought : {x : Sought} → r ≡ Ok x → run_of got x ≡ seek at n place many 0 0
+    run-sought {x} q =
+        let h : Within (length (take got.count w')) n place 0 (Ok x) = rw q at s.within in
+        by-sought x h (on-sought ∙ ap (sought_from at n place many 0 got.count) q)
+      where
+        by-sought : (x : Sought) → Within (length (take got.count w')) n place 0 (Ok x) → seek at n place many 0 0 ≡ sought_from at n place many 0 got.count (Ok x)
+            → run_of got x ≡ seek at n place many 0 0
+        by-sought (sought.At j) h t = ap (λ (k : ℕ). given k) (sym (zero-add j.number)) ∙ sym t
+        by-sought (sought.After s) h t = sym (t ∙ sought-on s (omega (arith, size, h.1)) (h.2 (omega arith)))
 
 -- ---- a plan that is a code
 module _ (p : Plan) (body : List ℕ) (n c : ℕ) (e : p ≡ code c) where
@@ -95,11 +128,19 @@ module _ (p : Plan) (body : List ℕ) (n place : ℕ) where
 
   module _ (q : Plan) (e : p ≡ differences q) where
     -- the sum is refused: first by what its numbers are read from, then by itself
-    pub differences-refused : (z t r : ℕ) → total (look q body n) (place + 1) ≡ refused z → t ≡ number (numbers_through q body n place)
-        → r ≡ cond (eqb t 0) z t → refused r ≡ look p body n place
-    differences-refused z t r h et er =
+    differences-refused : (z t : ℕ) → total (look q body n) (place + 1) ≡ refused z → t ≡ number (numbers_through q body n place)
+        → refused (cond (eqb t 0) z t) ≡ look p body n place
+    differences-refused z t h et =
         let (k, l, s) = total-stops (look q body n) (place + 1) z h in
-        rw (e, er, et) (sym (differences-later q body n place k z (omega arith) s (through-faulty laws q body n place)))
+        rw (e, et) (sym (differences-later q body n place k z (omega arith) s (through-faulty laws q body n place)))
+
+    pub differences-first : (z : ℕ) (y : Refusal) → total (look q body n) (place + 1) ≡ refused z → refusal_number y ≡ number (numbers_through q body n place)
+        → refused (refusal_number y) ≡ look p body n place
+    differences-first z y h t = let a = differences-refused z (refusal_number y) h t in rw (number-some y) at a
+
+    pub differences-last : (z : ℕ) → total (look q body n) (place + 1) ≡ refused z → 0 ≡ number (numbers_through q body n place)
+        → refused z ≡ look p body n place
+    differences-last z h t = differences-refused z 0 h t
 
     pub differences-sum : (x : ℕ) (a : Answer ℕ) → total (look q body n) (place + 1) ≡ given x → a ≡ within x → a ≡ look p body n place
     unfolding look

@@ -6,10 +6,12 @@ use native.Mathlib.Omega.{arith}
 use lib.ListN.{length, take, drop}
 use Rattle.meaning.specs.Bytes.{word_at}
 use Rattle.meaning.specs.Codes.{code_of, look_code}
-use Rattle.meaning.specs.Limits.{cut_short, broken}
 use Rattle.meaning.specs.Places.{part}
 use Rattle.meaning.specs.Plan.{Plan, bad, code, reference, differences, runs, plan_at, plan_size}
+use Rattle.meaning.specs.Says.{refusal_number}
 use Rattle.meaning.specs.Stages.{sums_from, look}
+use Rattle.meaning.specs.declared.Refusal.{Refusal}
+use Rattle.meaning.specs.declared.Refusal.TheVariants.{Broken, CutShort}
 use Rattle.codes.specs.Firsts.{Firsts, Space}
 use Rattle.codes.specs.declared.First.{First}
 use Rattle.stages.specs.Firsts.{Stored}
@@ -27,8 +29,8 @@ code-space s h = record { short = s.short; few = s.few; inside = h; room = omega
 
 -- ---- stage by stage
 module _ (p : Plan) (body : List ℕ) (n k from : ℕ) (w : List ℕ) where
-  pub bad-firsts : p ≡ bad → {r : First} → r ≡ ended_by k 0 broken → Firsts (look p body n) k from w w r
-  bad-firsts e er = rw er (firsts-none (look p body n) k from w broken (bad-at p body n e 0))
+  pub bad-firsts : p ≡ bad → {r : First} → r ≡ ended_by k 0 Broken → Firsts (look p body n) k from w w r
+  bad-firsts e er = rw er (firsts-none (look p body n) k from w Broken (bad-at p body n e 0))
 
   module _ (w' : List ℕ) (r : First) where
     pub code-firsts : (c : ℕ) → p ≡ code c → Firsts (look_code (code_of c) body n) k from w w' r → Firsts (look p body n) k from w w' r
@@ -51,16 +53,16 @@ module _ (p : Plan) (body : List ℕ) (n k from : ℕ) (w : List ℕ) where
         let at = look q (take (length body - 4) (drop 4 body)) n in
         rw er (firsts-as (raised_at m at) (look p body n) k from w w₂ (stop_at got c) (reference-at p body n q e m h em) (raised-firsts f room m w₂ c so))
 
-  pub reference-none : (q : Plan) → p ≡ reference q → length body < 4 → {r : First} → r ≡ ended_by k 0 cut_short → Firsts (look p body n) k from w w r
-  reference-none q e h er = rw er (firsts-none (look p body n) k from w cut_short (reference-short p body n q e h 0))
+  pub reference-none : (q : Plan) → p ≡ reference q → length body < 4 → {r : First} → r ≡ ended_by k 0 CutShort → Firsts (look p body n) k from w w r
+  reference-none q e h er = rw er (firsts-none (look p body n) k from w CutShort (reference-short p body n q e h 0))
 
 -- ---- runs, of which the second inner plan begins where the first ends
 module _ (p : Plan) (l : ℕ) (bytes : List ℕ) (x : ℕ) (body : List ℕ) (n k from : ℕ) (w : List ℕ) where
   abbrev runs_plan : Plan
   runs_plan = runs p (plan_at l bytes (x + plan_size (plan_at l bytes x)))
 
-  pub runs_none : {z : ℕ} → Headless n body z → {r : First} → r ≡ ended_by k 0 z → Firsts (look runs_plan body n) k from w w r
-  runs_none {z} h er = rw er (firsts-none _ k from w z (runs-refused p _ body n h 0))
+  pub runs_none : (z : Refusal) → Headless n body (refusal_number z) → {r : First} → r ≡ ended_by k 0 z → Firsts (look runs_plan body n) k from w w r
+  runs_none z h er = rw er (firsts-none _ k from w z (runs-refused p _ body n h 0))
 
   pub runs-firsts : (m : ℕ) → m ≡ x + plan_size (plan_at l bytes x) → (w₁ w₂ w₃ : List ℕ) {many end few : ℕ} (values lengths r : First)
       → Headed n body many end → few ≡ min many k

@@ -5,13 +5,16 @@ use mathlib.Core.Bool.{true, false}
 use mathlib.Core.List.{List}
 use native.Mathlib.Nat.{zero-add, sub-zero}
 use native.Mathlib.Omega.{arith}
+use Rattle.std.specs.Prelude.{Some}
 use lib.ListN.{length, get_or, take}
 use lib.Seq.{length-take-le, get_or-take}
 use borrow.Author.Tests.{lt-ltb, le-ltb}
 use Rattle.meaning.specs.Answer.{Answer, given, refused, bind}
 use Rattle.meaning.specs.Lists.{sum}
 use Rattle.meaning.specs.Places.{part}
+use Rattle.meaning.specs.Says.{refusal_number}
 use Rattle.meaning.specs.Stages.{unroll, seek}
+use Rattle.meaning.specs.declared.Refusal.{Refusal}
 use Rattle.meaning.proofs.Tests.{by_order, by-test}
 use Rattle.leaves.proofs.Parts.{part_length}
 use Rattle.codes.specs.Firsts.{Firsts}
@@ -22,7 +25,7 @@ use Rattle.stages.proofs.Parts.{part-get}
 use Rattle.stages.proofs.RunsBack.{unroll-length}
 use Rattle.stages.proofs.Seeks.{seek-none, seek-stops, seek-breaks, seek-here, seek-past, finds}
 use Rattle.stages.proofs.Unrolls.{fits-so, laid-at, laid-behind, laid_kept, some-many}
-use Rattle.plan_look.specs.Turns.{runs_at, ended_by, next_refusal, RunsTurned}
+use Rattle.plan_look.specs.Turns.{runs_at, ended_by, stop_of, next_refusal, RunsTurned}
 use Rattle.plan_look.proofs.Turns.{firsts-ended}
 
 module _ (from n k runs : ℕ) (w w₁ : List ℕ) (values lengths : First) (laid : Laid) (room : from + 3 * n ≤ length w) (far : k ≤ n)
@@ -101,7 +104,7 @@ module _ (from n k runs : ℕ) (w w₁ : List ℕ) (values lengths : First) (lai
           let e : run_fits n s l ≡ false = ap (run_fits n s) (sym same) ∙ no in
           let z : ◌≡◌ {A = ℕ} 0 1 = cc in omega arith
 
-      stops_so : runs_at n runs length_at value_at s ≡ refused (next_refusal n runs values lengths laid l)
+      stops_so : runs_at n runs length_at value_at s ≡ refused (refusal_number (next_refusal n values lengths laid l))
       unfolding next_refusal
       stops_so =
           by_order j lengths.count
@@ -109,29 +112,33 @@ module _ (from n k runs : ℕ) (w w₁ : List ℕ) (values lengths : First) (lai
           (λ t. rw t (no_value m t))
           (λ t. rw t (ap then (past ∙ seek-breaks length_at n s (runs - j) j s (omega (arith, fl.most)) l (length-next m) t)))))
           (λ m. rw (le-ltb j lengths.count m) (by_order j runs
-          (λ u. rw (lt-ltb j runs u) (ap then (past ∙ seek-stops length_at n s (runs - j) j s (omega arith) lengths.refusal (no_length m u))))
-          (λ u. rw (le-ltb j runs u) (ap then (past ∙ seek-none length_at n s (runs - j) j s (omega arith))))))
+          (λ u. let (z, q, t) = no_length m u in rw q (ap then (past ∙ seek-stops length_at n s (runs - j) j s (omega arith) _ t)))
+          (λ u. rw (fl.all (omega (arith, fl.most, laid-few))) (ap then (past ∙ seek-none length_at n s (runs - j) j s (omega arith))))))
         where
           then : Answer ℕ → Answer ℕ
           then a = bind a value_at
 
-          no_length : lengths.count ≤ j → j < runs → length_at j ≡ refused lengths.refusal
-          no_length m u = let e : j ≡ lengths.count = omega (arith, laid-few) in ap length_at e ∙ fl.stops (omega (arith, apart))
+          no_length : lengths.count ≤ j → j < runs → (z : Refusal) × (lengths.stop ≡ Some z) × (length_at j ≡ refused (refusal_number z))
+          no_length m u =
+              let e : j ≡ lengths.count = omega (arith, laid-few) in
+              let (z, q, t) = fl.stops (omega (arith, apart)) in
+              (z, q, ap length_at e ∙ t)
 
-          no_value : j < lengths.count → run_fits n s l ≡ true → runs_at n runs length_at value_at s ≡ refused values.refusal
+          no_value : j < lengths.count → run_fits n s l ≡ true → runs_at n runs length_at value_at s ≡ refused (refusal_number (stop_of values.stop))
           no_value m t =
               let e : j ≡ values.count = by_order j both (λ b. absurd (fits_not b t)) (λ b. omega (arith, laid-few)) in
-              let none : value_at j ≡ refused values.refusal = ap value_at e ∙ fv.stops (omega (arith, fl.most)) in
-              ap then (past ∙ seek-here length_at n s (runs - j) j s (omega (arith, fl.most)) l (length-next m) t (omega (arith, fits-so n s l t))) ∙ none
+              let (z, q, u) = fv.stops (omega (arith, fl.most)) in
+              let none : value_at j ≡ refused (refusal_number z) = ap value_at e ∙ u in
+              rw q (ap then (past ∙ seek-here length_at n s (runs - j) j s (omega (arith, fl.most)) l (length-next m) t (omega (arith, fits-so n s l t))) ∙ none)
 
 pub runs-turned : (runs : ℕ) {from n k : ℕ} {w w₁ : List ℕ} {values lengths : First} {laid : Laid} → from + 3 * n ≤ length w → k ≤ n → values.count ≤ n
     → (both : ℕ) → both ≡ min values.count lengths.count → Spread (part w (from + n) both) (part w (from + 2 * n) both) n k from w w₁ laid
-    → (z : ℕ) → z ≡ next_refusal n runs values lengths laid (get_or w₁ (from + 2 * n + laid.runs) 0)
+    → (z : Refusal) → z ≡ next_refusal n values lengths laid (get_or w₁ (from + 2 * n + laid.runs) 0)
     → RunsTurned from n k runs w values lengths w₁ (ended_by k laid.numbers z)
 runs-turned runs {from} {n} {k} {w} {w₁} {values} {lengths} {laid} room far few both eb so z ez value_at length_at before behind fv fl =
     let b : both ≤ n = omega arith in
     firsts-ended (runs_at n runs length_at value_at) k from w w₁ laid.numbers z
     (numbers-are from n k runs w w₁ values lengths laid room far both eb b so value_at length_at before behind fv fl)
     (λ h. stops_so from n k runs w w₁ values lengths laid room far both eb b so value_at length_at before behind fv fl h _ refl
-    ∙ ap (λ (x : ℕ). refused x) (sym ez))
+    ∙ ap (λ (x : Refusal). refused (refusal_number x)) (sym ez))
     (laid_kept so.laid)

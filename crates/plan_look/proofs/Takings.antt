@@ -2,6 +2,7 @@
 use Prim.Native.Nat.{ℕ, ◌+◌, ◌-◌, ◌≤◌, ◌<◌}
 use mathlib.Core.Path.{◌≡◌, sym, ap, ◌∙◌}
 use mathlib.Core.List.{List}
+use mathlib.Core.Logic.{◌⊎◌, inl, inr}
 use native.Mathlib.Omega.{arith}
 use lib.ListN.{length, take, drop}
 use borrow.Author.Tests.{le-leb, lt-leb}
@@ -10,7 +11,12 @@ use Rattle.meaning.specs.Bytes.{word_at}
 use Rattle.meaning.specs.Limits.{cut_short, broken}
 use Rattle.meaning.specs.Plan.{Plan, bad, code, reference, differences, runs, plan_at, plan_size}
 use Rattle.meaning.specs.Stages.{unroll, values_body, numbers_to, seek, look, numbers_through}
+use Rattle.meaning.specs.declared.Offset.{Offset}
 use Rattle.meaning.proofs.Answers.{made-number}
+use Rattle.judge.specs.Stage.{stage_at}
+use Rattle.judge.specs.declared.stage.Stage.{Stage}
+use Rattle.judge.specs.declared.stage.Stage.TheVariants.{Code, Differences}
+use Rattle.judge.proofs.PlanLaws.{at_code, at-differences}
 use Rattle.codes.specs.Firsts.{total}
 use Rattle.codes.proofs.Totals.{total-to}
 use Rattle.stages.proofs.Headers.{Headed, Headless}
@@ -30,11 +36,11 @@ module _ (p : Plan) (body : List ℕ) (n place : ℕ) where
   taking-as q t e h = h ∙ ap (λ (x : Plan). number (numbers_through x body n place)) (sym e)
 
   module _ {t : ℕ} (told : t ≡ number (total (look p body n) (place + 1))) where
-    pub taking-code : (c : ℕ) → p ≡ code c → t ≡ number (numbers_through p body n place)
+    taking-code : (c : ℕ) → p ≡ code c → t ≡ number (numbers_through p body n place)
     unfolding numbers_through
     taking-code c e = rw e (rw e at told ∙ by-places _ (place + 1))
 
-    pub taking-differences : (q : Plan) → p ≡ differences q → t ≡ number (numbers_through p body n place)
+    taking-differences : (q : Plan) → p ≡ differences q → t ≡ number (numbers_through p body n place)
     unfolding numbers_through
     taking-differences q e = rw e (rw e at told ∙ by-places _ (place + 1))
 
@@ -48,6 +54,14 @@ module _ (p : Plan) (body : List ℕ) (n place : ℕ) where
     unfolding numbers_through
     taking-reference h t told =
         told ∙ rw (e, le-leb 4 (length body) h, to_the_end body 4) (sym (made-number (numbers_through q (drop 4 body) n place) _))
+
+-- a code or differences
+pub taking-apart : (stages : ℕ) (bytes : List ℕ) (at : ℕ) (body : List ℕ) (n place : ℕ) {r : Stage} → r ≡ stage_at stages bytes at
+    → ((c : ℕ) × (r ≡ Code c)) ⊎ ((x : Offset) × (l : ℕ) × (r ≡ Differences x l)) → {t : ℕ}
+    → t ≡ number (total (look (plan_at stages bytes at) body n) (place + 1)) → t ≡ number (numbers_through (plan_at stages bytes at) body n place)
+taking-apart stages bytes at body n place is (inl (c, q)) told = taking-code _ body n place told c (at_code stages bytes at c (sym is ∙ q)).0
+taking-apart stages bytes at body n place is (inr (x, l, q)) told =
+    taking-differences _ body n place told _ (at-differences stages bytes at x l (sym is ∙ q)).0
 
 -- ---- runs, of which the second inner plan begins where the first ends
 module _ (p : Plan) (l : ℕ) (bytes : List ℕ) (x : ℕ) (body : List ℕ) (n place : ℕ) where

@@ -5,6 +5,7 @@ use mathlib.Core.List.{List}
 use native.Mathlib.Nat.{zero-add}
 use native.Mathlib.Numerals.{add-one}
 use native.Mathlib.Omega.{arith}
+use Rattle.std.specs.Prelude.{Some, None}
 use lib.ListN.{length, get_or, take}
 use lib.Seq.{take_all, get_or-take}
 use borrow.Author.Tests.{lt-ltb, le-ltb}
@@ -13,7 +14,10 @@ use Rattle.meaning.specs.Limits.{broken}
 use Rattle.meaning.specs.Lists.{sum}
 use Rattle.meaning.specs.Places.{part}
 use Rattle.meaning.specs.Plan.{Plan, differences}
+use Rattle.meaning.specs.Says.{refusal_number}
 use Rattle.meaning.specs.Stages.{sums_from, within, look}
+use Rattle.meaning.specs.declared.Refusal.{Refusal}
+use Rattle.meaning.specs.declared.Refusal.TheVariants.{Broken}
 use Rattle.meaning.proofs.Tests.{by_order}
 use Rattle.leaves.proofs.Parts.{part_length}
 use Rattle.codes.specs.Firsts.{Firsts, total}
@@ -30,13 +34,13 @@ use Rattle.plan_look.specs.Turns.{raised_at, ended_by, stop_at}
 
 -- ---- first numbers
 -- c numbers of k, and a refusal after them
-pub firsts-ended : (at : ℕ → Answer ℕ) (k from : ℕ) (w w' : List ℕ) (c z : ℕ) → ((i : ℕ) → i < c → i < k → at i ≡ given (get_or w' (from + i) 0))
-    → (c < k → at c ≡ refused z)
+pub firsts-ended : (at : ℕ → Answer ℕ) (k from : ℕ) (w w' : List ℕ) (c : ℕ) (z : Refusal) → ((i : ℕ) → i < c → i < k → at i ≡ given (get_or w' (from + i) 0))
+    → (c < k → at c ≡ refused (refusal_number z))
     → take from w' ≡ take from w → Firsts at k from w w' (ended_by k c z)
 unfolding ended_by
 firsts-ended at k from w w' c z are stops kept =
     by_order c k
-    (λ h. rw (lt-ltb c k h) (record { most = omega arith; are = λ i l. are i l (omega arith); stops = stops; all = λ b. absurd (omega arith); kept = kept }))
+    (λ h. rw (lt-ltb c k h) (record { most = omega arith; are = λ i l. are i l (omega arith); stops = λ l. (z, refl, stops l); all = λ b. absurd (omega arith); kept = kept }))
     (λ h. rw (le-ltb c k h) (record {
       most = omega arith;
       are = λ i l. are i (omega arith) l;
@@ -47,13 +51,13 @@ firsts-ended at k from w w' c z are stops kept =
     }))
 
 -- a lookup that refuses at its first place has none
-pub firsts-none : (at : ℕ → Answer ℕ) (k from : ℕ) (w : List ℕ) (z : ℕ) → at 0 ≡ refused z → Firsts at k from w w (ended_by k 0 z)
+pub firsts-none : (at : ℕ → Answer ℕ) (k from : ℕ) (w : List ℕ) (z : Refusal) → at 0 ≡ refused (refusal_number z) → Firsts at k from w w (ended_by k 0 z)
 firsts-none at k from w z e = firsts-ended at k from w w 0 z (λ i h l. absurd (omega arith)) (λ h. e) refl
 
 -- the same lookup by other words
 pub firsts-as : (at at' : ℕ → Answer ℕ) (k from : ℕ) (w w' : List ℕ) (r : First) → ((i : ℕ) → at' i ≡ at i) → Firsts at k from w w' r → Firsts at' k from w w' r
 firsts-as at at' k from w w' r e f =
-    record { most = f.most; are = λ i h. e i ∙ f.are i h; stops = λ h. e r.count ∙ f.stops h; all = f.all; kept = f.kept }
+    record { most = f.most; are = λ i h. e i ∙ f.are i h; stops = λ h. let (z, q, s) = f.stops h in (z, q, e r.count ∙ s); all = f.all; kept = f.kept }
 
 -- what stands behind them does not matter
 pub firsts-stay : (at : ℕ → Answer ℕ) (k from m : ℕ) (w w' w'' : List ℕ) (r : First) → from + k ≤ m → take m w'' ≡ take m w' → Firsts at k from w w' r
@@ -93,14 +97,14 @@ module _ {at : ℕ → Answer ℕ} {k from : ℕ} {w₀ w : List ℕ} {got : Fir
         (record {
           most = omega (arith, f.most);
           are = λ i l. here i l (omega arith);
-          stops = λ l. over h;
+          stops = λ l. (Broken, refl, over h);
           all = λ b. absurd (omega (arith, f.most));
           kept = stored-kept so ∙ f.kept;
         }))
         (λ h. rw (le-ltb c got.count h) (record {
           most = f.most;
           are = λ i l. here i (omega arith) l;
-          stops = λ l. stops got.refusal (f.stops l);
+          stops = λ l. let (z, q, s) = f.stops l in (z, q, stops (refusal_number z) s);
           all = f.all;
           kept = stored-kept so ∙ f.kept;
         }))
@@ -122,11 +126,21 @@ module _ {at : ℕ → Answer ℕ} {k from : ℕ} {w₀ w : List ℕ} {got : Fir
         w' c so
 
   -- ---- their sum
-  pub total-fewer : got.count < k → from + got.count ≤ length w → refused got.refusal ≡ total at k
+  -- what stops them, stops it
+  pub stopped : {e : Refusal} → got.stop ≡ Some e → (got.count < k) × (at got.count ≡ refused (refusal_number e))
+  stopped {e} h =
+      by_order got.count k
+      (λ l. let (z, q, s) = f.stops l in let same : z ≡ e = cc in (l, s ∙ ap (λ (x : Refusal). refused (refusal_number x)) same))
+      (λ l. let q = f.all (omega (arith, f.most)) in let z : ◌≡◌ {A = ℕ} 0 1 = cc in absurd (omega arith))
+
+  pub whole : got.stop ≡ None → k ≤ got.count
+  whole h = by_order got.count k (λ l. let (z, q, s) = f.stops l in let z : ◌≡◌ {A = ℕ} 0 1 = cc in absurd (omega arith)) (λ l. l)
+
+  pub total-fewer : {e : Refusal} → got.stop ≡ Some e → from + got.count ≤ length w → refused (refusal_number e) ≡ total at k
   total-fewer h room =
       let few = numbers-long room in
-      sym (total-refused at got.count k _ got.refusal h
-      (total-taken at got-numbers (λ j l. numbers-at j (omega arith)) got.count (omega arith)) (f.stops h))
+      let (l, s) = stopped h in
+      sym (total-refused at got.count k _ _ l (total-taken at got-numbers (λ j l. numbers-at j (omega arith)) got.count (omega arith)) s)
 
   pub total-whole : k ≤ got.count → from + k ≤ length w → (s : ℕ) → s ≡ sum (part w from k) → given s ≡ total at k
   total-whole h room s e =

@@ -1,5 +1,5 @@
 -- What a stage makes of the lookups below it, as the meaning's `look` says it.
-use Rattle.std.specs.Prelude.{ℕ, ◌+◌, ◌*◌, min, cond, List, ltb, Option, Some, None}
+use Rattle.std.specs.Prelude.{ℕ, ◌+◌, ◌*◌, min, cond, List, ltb, Option, Some, None, unwrap_or}
 use Rattle.meaning.specs.Answer.{Answer, given, refused, bind}
 use Rattle.meaning.specs.Says.{refusal_number}
 use Rattle.meaning.specs.Stages.{within, seek}
@@ -29,8 +29,7 @@ stop_at got count = cond (ltb count got.count) (record { count = count; stop = S
 
 -- why nothing follows what was got: where all was there, more is asked than there can be
 abbrev pub stop_of : Option Refusal → Refusal
-stop_of (Some e) = e
-stop_of None = Broken
+stop_of stop = unwrap_or stop Broken
 
 -- why no run follows those that are laid, where l would be its length
 unfoldable pub next_refusal : ℕ → First → First → Laid → ℕ → Refusal

@@ -86,50 +86,50 @@ firsts_plan-returns-in-Runs t c =
 
 pub firsts_runs-firsts_plan-values-requires : goal.firsts_runs-firsts_plan-values-requires
 firsts_runs-firsts_plan-values-requires t c =
-    let head = headed c.header_of.ensures c.in-Runs.is in
-    let split = c.in-Runs.end.byte in
+    let head = headed c.header_of.ensures c.in-Ok.is in
+    let split = c.in-Ok.header.end.byte in
     let short = part-short c.args.body.now 8 (split - 8) in
-    (omega (arith), (fits-values c.requires.0 head.few short refl, omega (arith, c.lesser-few.ensures)))
+    (omega (arith), (fits-values c.requires.0 head.few short refl, omega (arith, c.min-few.ensures)))
 
 pub firsts_runs-firsts_plan-lengths-requires : goal.firsts_runs-firsts_plan-lengths-requires
 firsts_runs-firsts_plan-lengths-requires t c =
-    let head = headed c.header_of.ensures c.in-Runs.is in
-    let split = c.in-Runs.end.byte in
+    let head = headed c.header_of.ensures c.in-Ok.is in
+    let split = c.in-Ok.header.end.byte in
     let short = part-short c.args.body.now split (length c.args.body.now - split) in
     let same = c.firsts_plan-values.auto.work in
-    (omega (arith), (fits-lengths c.requires.0 head.few short same, omega (arith, c.lesser-few.ensures)))
+    (omega (arith), (fits-lengths c.requires.0 head.few short same, omega (arith, c.min-few.ensures)))
 
 pub firsts_runs-spread_runs-requires : goal.firsts_runs-spread_runs-requires
 firsts_runs-spread_runs-requires t c =
-    let head = headed c.header_of.ensures c.in-Runs.is in
-    let small = c.lesser-few.ensures in (
+    let head = headed c.header_of.ensures c.in-Ok.is in
+    let small = c.min-few.ensures in (
       omega (arith, fits-spread c.requires.0),
       c.requires.1,
       omega (arith, c.firsts_plan-values.ensures.most, head.few),
       omega (arith, c.firsts_plan-lengths.ensures.most, head.few),
     )
 
-pub firsts_runs-returns-in-Refused : goal.firsts_runs-returns-in-Refused
-firsts_runs-returns-in-Refused t c = runs_none _ _ _ _ _ _ _ _ _ (headless c.header_of.ensures c.in-Refused.is) c.ended.ensures
+pub firsts_runs-returns-in-Err : goal.firsts_runs-returns-in-Err
+firsts_runs-returns-in-Err t c = runs_none _ _ _ _ _ _ _ _ _ _ (headless c.header_of.ensures c.in-Err.is) c.ended.ensures
 
-pub firsts_runs-returns-in-Runs : goal.firsts_runs-returns-in-Runs
-firsts_runs-returns-in-Runs t c =
-    let head = headed c.header_of.ensures c.in-Runs.is in
-    runs-firsts _ _ _ _ _ _ _ _ _ _ c.plan_end-after.ensures _ _ _ _ _ _ head c.lesser-few.ensures c.firsts_plan-values.ensures
+pub firsts_runs-returns : goal.firsts_runs-returns
+firsts_runs-returns t c =
+    let head = headed c.header_of.ensures c.in-Ok.is in
+    runs-firsts _ _ _ _ _ _ _ _ _ _ c.plan_end-after.ensures _ _ _ _ _ _ head c.min-few.ensures c.firsts_plan-values.ensures
     c.firsts_plan-lengths.ensures
     c.spread_runs.ensures
 
 pub firsts_runs-slice_bounds-firsts_plan-count : goal.firsts_runs-slice_bounds-firsts_plan-count
-firsts_runs-slice_bounds-firsts_plan-count t c = (headed c.header_of.ensures c.in-Runs.is).after
+firsts_runs-slice_bounds-firsts_plan-count t c = (headed c.header_of.ensures c.in-Ok.is).after
 
 pub firsts_runs-slice_bounds-firsts_plan-start : goal.firsts_runs-slice_bounds-firsts_plan-start
-firsts_runs-slice_bounds-firsts_plan-start t c = (headed c.header_of.ensures c.in-Runs.is).after
+firsts_runs-slice_bounds-firsts_plan-start t c = (headed c.header_of.ensures c.in-Ok.is).after
 
 pub firsts_runs-slice_bounds-firsts_plan-end : goal.firsts_runs-slice_bounds-firsts_plan-end
-firsts_runs-slice_bounds-firsts_plan-end t c = (headed c.header_of.ensures c.in-Runs.is).inside
+firsts_runs-slice_bounds-firsts_plan-end t c = (headed c.header_of.ensures c.in-Ok.is).inside
 
-pub firsts_runs-slice_bounds-firsts_plan-count-in-Runs : goal.firsts_runs-slice_bounds-firsts_plan-count-in-Runs
-firsts_runs-slice_bounds-firsts_plan-count-in-Runs t c = (headed c.header_of.ensures c.in-Runs.is).inside
+pub firsts_runs-slice_bounds-firsts_plan-count-2 : goal.firsts_runs-slice_bounds-firsts_plan-count-2
+firsts_runs-slice_bounds-firsts_plan-count-2 t c = (headed c.header_of.ensures c.in-Ok.is).inside
 
-pub firsts_runs-slice_bounds-firsts_plan-start-in-Runs : goal.firsts_runs-slice_bounds-firsts_plan-start-in-Runs
-firsts_runs-slice_bounds-firsts_plan-start-in-Runs t c = (headed c.header_of.ensures c.in-Runs.is).inside
+pub firsts_runs-slice_bounds-firsts_plan-start-2 : goal.firsts_runs-slice_bounds-firsts_plan-start-2
+firsts_runs-slice_bounds-firsts_plan-start-2 t c = (headed c.header_of.ensures c.in-Ok.is).inside
