@@ -1,6 +1,7 @@
 -- What the board's rules and its verdict say, over plain variables. Assumes nothing.
 use Rattle.meaning.specs.declared.Refusal.{Refusal}
 use Rattle.std.specs.Prelude.{Result, Ok, Err}
+use Rattle.std.specs.Result.{result_unwrap_or}
 use Prim.Native.Nat.{ℕ, ◌≤◌, ◌<◌}
 use mathlib.Core.Path.{◌≡◌, refl, sym, ap, ◌∙◌}
 use mathlib.Core.Bool.{Bool, true, false, ◌&&◌}
@@ -40,17 +41,25 @@ module _ {sheet : List ℕ} {k : ℕ} {w : List ℕ} {e : Entry} (known : Known 
   known-readable = readable is (known-here known) (omega (arith, is.count, count_most sheet k known.exists, (known-ready known).room))
 
   module _ {w₁ : List ℕ} {q : Result ℕ Refusal} (so : Got (read_column (column_of sheet e)) 0 w w₁ q) where
-    pub again-whole : {n : ℕ} → q ≡ Ok n → ReadAgain sheet k w₁ n
+    again-whole : {n : ℕ} → q ≡ Ok n → ReadAgain sheet k w₁ n
     unfolding numbers_at
     again-whole {n} t =
         let (r, many) = entry-given is so t in
         record { fits = omega (arith, many, length-take n w₁); here = sym (ap list r) }
 
     -- it was read before, so that it is not refused
-    pub again-never : {z : Refusal} → q ≡ Err z → ReadAgain sheet k w₁ 0
+    again-never : {z : Refusal} → q ≡ Err z → ReadAgain sheet k w₁ 0
     again-never {z} t =
         let (xs, r) = column-passed sheet (length w) known.checked k known.exists in
         absurd (not-given _ xs (sym (entry-refused is so t) ∙ r))
+
+    -- so that the number read is the column's
+    pub again : {n : ℕ} → n ≡ result_unwrap_or q 0 → ReadAgain sheet k w₁ n
+    again {n} e = by-case q refl
+      where
+        by-case : (r : Result ℕ Refusal) → q ≡ r → ReadAgain sheet k w₁ n
+        by-case (Ok m) t = rw (e ∙ ap (λ (r : Result ℕ Refusal). result_unwrap_or r 0) t) (again-whole t)
+        by-case (Err z) t = rw (e ∙ ap (λ (r : Result ℕ Refusal). result_unwrap_or r 0) t) (again-never t)
 
 -- ---- the jobs
 pub checked-whole : (sheet : List ℕ) (work : ℕ) → check sheet work ≡ passed → (k : ℕ) → k < column_count sheet → Within sheet k

@@ -62,9 +62,9 @@ module _ (sheet : List ℕ) (k work room : ℕ) where
 
 -- ---- by the entry
 -- a column that is not there
-pub says_none : (sheet : List ℕ) (k : ℕ) (w out : List ℕ) {z : Refusal} → column sheet k ≡ refused (refusal_number z)
+pub says_none : (sheet : List ℕ) (k : ℕ) (w out : List ℕ) (z : Refusal) → column sheet k ≡ refused (refusal_number z)
     → ReadSays (read_sheet sheet k (length w) (length out)) out out (Err z)
-says_none sheet k w out {z} e = says-refused (read_sheet sheet k (length w) (length out)) out z (read_none sheet k (length w) (length out) (refusal_number z) e)
+says_none sheet k w out z e = says-refused (read_sheet sheet k (length w) (length out)) out z (read_none sheet k (length w) (length out) (refusal_number z) e)
 
 module _ {sheet : List ℕ} {k : ℕ} {e : Entry} (o : Opened sheet k e) (w out : List ℕ) where
   abbrev answer : Answer (List ℕ)

@@ -4,11 +4,11 @@ use Rattle.table.proofs.Sounds.{sound-sheet}
 use Rattle.sheet.proofs.Checks.{bodies-here, bodies-readable, bodies-turn, bodies-refuse, bodies-end}
 use Rattle.sheet.proofs.check_columns.Goals as goal
 
-pub column_count-columns-requires : goal.column_count-columns-requires
-column_count-columns-requires c = (sound-sheet c.args.sheet.now c.requires.sounds).least
+pub column_count-column-end-requires : goal.column_count-column-end-requires
+column_count-column-end-requires c = (sound-sheet c.args.sheet.now c.requires.sounds).least
 
 pub loop-column-init : goal.loop-column-init
-loop-column-init c = record { ready = c.requires; counted = c.column_count-columns.ensures.0; long = refl; below = refl }
+loop-column-init c = record { ready = c.requires; counted = c.column_count-column-end.ensures.0; long = refl; below = refl }
 
 -- ---- a turn
 pub entry_at-entry-requires : goal.entry_at-entry-requires
