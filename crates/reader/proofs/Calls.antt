@@ -95,16 +95,6 @@ module _ (part : List ℕ) (k : ℕ) where
       (λ h. let same : min n most_numbers ≡ n = omega arith in ap (call_over part k) same)
       (λ h. let same : min n most_numbers ≡ most_numbers = omega arith in ap (call_over part k) same ∙ refused-most n h (call_over part k most_numbers) refl)
 
--- what a call leaves, by its answer: one place further after a number, and the same reader after a refusal
-pub step-found : (r : Reader) (x : Result ℕ Refusal) → says x ≡ answer (standing r) → is_ok x ≡ true
-    → record { sheet = r.sheet; column = r.column; place = record { number = r.place.number + 1 } } ≡ moved r
-step-found r (Ok y) e h = ap (λ (a : Answer ℕ). record { sheet = r.sheet; column = r.column; place = record { number = next_place a r.place.number } }) e
-step-found r (Err z) e h = cc
-
-pub step-refused : (r : Reader) (x : Result ℕ Refusal) → says x ≡ answer (standing r) → is_ok x ≡ false → r ≡ moved r
-step-refused r (Ok y) e h = cc
-step-refused r (Err z) e h = ap (λ (a : Answer ℕ). record { sheet = r.sheet; column = r.column; place = record { number = next_place a r.place.number } }) e
-
 module _ (sheet : List ℕ) (k : ℕ) where
   -- the answer of a reader after n calls is call n
   pub call-after : (n : ℕ) → answer (after n (opened sheet k)) ≡ call sheet k n

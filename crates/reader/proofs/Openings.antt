@@ -1,4 +1,7 @@
 -- What opening a reader answers, and where a lookup that gave a number looked. Assumes nothing.
+use Rattle.std.specs.Prelude.{true, Result, Ok, Err, is_ok}
+use Rattle.meaning.specs.Says.{says}
+use Rattle.meaning.specs.declared.Refusal.{Refusal}
 use Prim.Native.Nat.{ℕ, ◌≤◌, ◌<◌}
 use mathlib.Core.Path.{◌≡◌, sym, ap, ◌∙◌}
 use mathlib.Core.List.{List}
@@ -43,3 +46,8 @@ module _ (sheet : List ℕ) (k : ℕ) where
       let (c, told, e₁) = bind-given (column sheet k) (λ (c : Column). need (ltb place c.count) no_place (looked c)) x e in
       let (below, _) = need-given (ltb place c.count) no_place (looked c) x e₁ in
       omega (arith, ltb-true place c.count below, count-few c told)
+
+  -- and so is one at which a lookup gave something
+  pub found-ok : (place : ℕ) (r : Result ℕ Refusal) → says r ≡ look_sheet sheet k place → true ≡ is_ok r → place < most_numbers
+  found-ok place (Ok x) e h = found_below place x (sym e)
+  found-ok place (Err z) e h = cc

@@ -84,8 +84,8 @@ pub fn nth_call(sheet: &[u8], column: usize, k: usize) -> Result<u32, Refusal>
 {
     let (mut r, _) = open(sheet, column);
     // No more calls than a column can have numbers: by then one was refused, and each later call gives that refusal again.
-    for _ in 0..k.min(MOST_NUMBERS) {
-        step(&mut r);
+    for i in 0..k.min(MOST_NUMBERS) {
+        let _ = step(&mut r);
     }
     step(&mut r)
 }

@@ -125,6 +125,6 @@ pub fn put_column(
 {
     let count = count_at(sheet, column);
     let head = put_head(sheet, column, out, at);
-    sheet::read(sheet, column, work, list);
+    let _ = sheet::read(sheet, column, work, list);
     put_numbers(&list[..count], out, head)
 }

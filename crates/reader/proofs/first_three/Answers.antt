@@ -8,8 +8,8 @@ pub returns : goal.returns
 returns c =
     let sheet = c.args.sheet.now in
     let k = c.args.column in
-    let r₀ = c.open-r.result in
-    let e₀ = stands-first sheet k r₀ c.open-r.ensures.0 in
+    let r₀ = c.open.result.0 in
+    let e₀ = stands-first sheet k r₀ c.open.ensures.0 in
     let e₁ = ap standing c.step-first.ensures.1 ∙ stands-next sheet k 0 r₀ e₀ in
     let e₂ = ap standing c.step-second.ensures.1 ∙ stands-next sheet k 1 c.step-first.new.r e₁ in (
       tells-call sheet k 0 r₀ c.step-first.result e₀ c.step-first.ensures.0,

@@ -8,10 +8,10 @@ pub returns-in-Ok : goal.returns-in-Ok
 returns-in-Ok c =
     let a = c.args in
     let is = board-tallies a.sheet.now a.work.now c.requires _ c.board.ensures c.in-Ok.is in
-    written is c.put_tally.ensures
+    written is c.put_tally-end.ensures
 
 pub returns-in-Err : goal.returns-in-Err
 returns-in-Err c =
     let a = c.args in
     let is = board-refused a.sheet.now a.work.now c.requires _ c.board.ensures c.in-Err.is in
-    written is (widened c.put_refused.ensures (omega arith))
+    written is (widened c.put_refused-end.ensures (omega arith))

@@ -12,4 +12,5 @@ returns c =
     let column = c.put_next-third.ensures in
     let k = c.put_number-fourth.ensures in
     let end = c.put_end.ensures in
-    record { wrote = line_first refused (line-next e.wrote (line-next column (line-next k.wrote (line-last end)))); short = omega arith }
+    rw (← c.from.ensures)
+    (record { wrote = line_first refused (line-next e.wrote (line-next column (line-next k.wrote (line-last end)))); short = omega arith })
