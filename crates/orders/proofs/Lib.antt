@@ -1,4 +1,3 @@
--- Laws of orders gathered and taken apart.
-pub mod Gathers
+-- Laws of orders taken apart.
 pub mod Taken
 pub mod Unique

@@ -1,3 +1,2 @@
 -- What this crate's functions answer, in the meaning's words.
 pub mod Orders
-pub mod Gathering

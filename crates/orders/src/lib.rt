@@ -1,17 +1,12 @@
 // The writer of sheets over a lent list of column orders.
-// The list is a slice of structs, so it is taken apart first; the writer over plain slices does the work.
+// The orders are taken apart into slices of their own, and the writer over plain slices does the work.
 #![tactic(auto)]
 
 ghost use Rattle.std.specs.Prelude.{[], ◌∷◌, map};
 ghost use Rattle.meaning.specs.Promises.{Writes};
 ghost use Rattle.orders.specs.Orders.{order_says};
 
-use crate::apart::write_gathered;
-use crate::gathering::gather;
-use meaning::Sized;
-
-mod apart;
-mod gathering;
+use meaning::{MOST_COLUMNS, PLAN_BYTES, Refusal};
 
 // A column's order: its kind, its plan (15 zeros mean the default), and how many of the joined numbers are its list.
 #[derive(Clone, Copy)]
@@ -28,11 +23,32 @@ pub fn write(
     joined: &[u32],
     work: &mut [u32],
     out: &mut [u8],
-) -> Sized
+) -> Result<usize, Refusal>
     ensures { Writes edition (map order_says orders.now) joined.now work.old out.old (result, out.new) }
 {
-    let g = gather(orders);
-    write_gathered(edition, g, joined, work, out)
+    let n = orders.len();
+    if MOST_COLUMNS < n {
+        return Err(Refusal::BadOrders);
+    }
+    let mut kinds = [0u8; 16];
+    let mut plans = [0u8; 240];
+    let mut counts = [0u32; 16];
+    for (i, o) in orders.iter().enumerate() {
+        let at = PLAN_BYTES * i;
+        kinds[i] = o.kind;
+        plans[at..at + PLAN_BYTES].copy_from_slice(&o.plan);
+        counts[i] = o.count;
+    }
+    let stop = PLAN_BYTES * n;
+    writer::write(
+        edition,
+        &kinds[..n],
+        &plans[..stop],
+        &counts[..n],
+        joined,
+        work,
+        out,
+    )
 }
 
 // Writes a sheet of two columns, each order a plain parameter.
@@ -43,9 +59,8 @@ pub fn write_two(
     joined: &[u32],
     work: &mut [u32],
     out: &mut [u8],
-) -> Sized
+) -> Result<usize, Refusal>
     ensures { Writes edition (map order_says (a ∷ b ∷ [])) joined.now work.old out.old (result, out.new) }
 {
-    let list = [a, b];
-    write(edition, &list, joined, work, out)
+    write(edition, &[a, b], joined, work, out)
 }
