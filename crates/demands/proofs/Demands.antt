@@ -16,10 +16,12 @@ use Rattle.meaning.specs.Operations.{write_sheet, write_apart, check, read_sheet
 use Rattle.meaning.specs.Plan.{judge, worst_size}
 use Rattle.meaning.specs.Rank.{rank, select}
 use Rattle.meaning.specs.Says.{says, verdict_says, counted_says, says_by, bit_told}
+use Rattle.meaning.specs.declared.Tally.{Tally}
 use Rattle.meaning.specs.Sheet.{Column, edition_of, column_at, read_column}
 use Rattle.meaning.proofs.Answers.{Faulty, bind-given, need-given, not-given}
+use Rattle.meaning.proofs.Same.{says-same}
 use Rattle.bits.proofs.Unique.{one_rank, one-select}
-use Rattle.judge.proofs.Unique.{one-judge, one-worst-size, one-sized}
+use Rattle.judge.proofs.Unique.{one-judge, one-worst-size}
 use Rattle.codes.proofs.Numbered.{laws}
 use Rattle.stages.proofs.Faults.{column-faulty}
 use Rattle.stages.proofs.Overruns.{cut-before, broken-behind, stays-broken}
@@ -72,11 +74,11 @@ demand-1 =
       writing = λ edition orders joined work o.
           let m = write_sheet edition orders joined (length work) (length o) in
           by-output (3 ∷ 4 ∷ 7 ∷ 8 ∷ 10 ∷ 11 ∷ []) refl says m o (write-refusals edition orders joined (length work) (length o))
-          (λ r s. one-sized r s (amount m));
+          (λ r s e f. says-same r s (e ∙ sym f));
       writing_apart = λ edition kinds plans counts joined work o.
           let m = write_apart edition kinds plans counts joined (length work) (length o) in
           by-output (3 ∷ 4 ∷ 7 ∷ 8 ∷ 10 ∷ 11 ∷ []) refl says m o (apart-refusals edition kinds plans counts joined (length work) (length o))
-          (λ r s. one-sized r s (amount m));
+          (λ r s e f. says-same r s (e ∙ sym f));
       checking = λ sheet work.
           by-verdict (1 ∷ 2 ∷ 3 ∷ 4 ∷ 8 ∷ 9 ∷ 13 ∷ []) refl (Checks sheet work) (λ r. refusal (verdict_says r)) (check sheet (length work)) (λ r. Unit {0})
           (check-refusals sheet (length work)) (one-check sheet (length work)) (λ r t. ap refusal t) (λ r t l. tt);

@@ -8,7 +8,7 @@ use lib.ListN.{length, take, drop}
 use lib.Seq.{take-append_seam, drop-append_seam}
 use Rattle.meaning.specs.Answer.{Answer, given, refused, amount, filled}
 use Rattle.meaning.specs.Says.{says}
-use Rattle.judge.proofs.Unique.{one-sized}
+use Rattle.meaning.proofs.Same.{says-same}
 use Rattle.demands.specs.Promises.{Fills}
 
 module _ (out : List ℕ) where
@@ -31,4 +31,4 @@ pub filled-with : (m : Answer (List ℕ)) (bytes o : List ℕ) (a : Result ℕ R
     → a ≡ (Ok (length bytes), bytes ++ drop (length bytes) o)
 filled-with m bytes o a e t =
     both a (Ok (length bytes), bytes ++ drop (length bytes) o)
-    (one-sized a.0 (Ok (length bytes)) (given (length bytes)) (t.0 ∙ ap amount e) refl, t.1 ∙ ap (λ (x : Answer (List ℕ)). filled x o) e)
+    (says-same a.0 (Ok (length bytes)) (t.0 ∙ ap amount e), t.1 ∙ ap (λ (x : Answer (List ℕ)). filled x o) e)
