@@ -1,7 +1,7 @@
 -- Loops that make a list of another, number by number, behind it or in its place: what is still to be stored, stored from here, is the whole.
 -- Assumes nothing.
 use Prim.Native.Nat.{ℕ, zero, suc, ◌+◌, ◌-◌, ◌≤◌, ◌<◌}
-use mathlib.Core.Path.{◌≡◌, refl, sym, ap, ap₂, ◌∙◌}
+use mathlib.Core.Path.{◌≡◌, refl, sym, ap, ap₂, ◌∙◌, subst}
 use mathlib.Core.List.{List, [], ◌∷◌, map}
 use native.Mathlib.Nat.{zero-add}
 use native.Mathlib.Numerals.{add-one}
@@ -124,26 +124,31 @@ module _ {F : ℕ → List ℕ → List ℕ} {f g : ℕ → ℕ → ℕ} (is : S
         let made = take i (F s₀ (part w₀ from n)) in
         ap (λ (l : List ℕ). get_or l (from + i) 0) so.scan.here ∙ get_d_past made w₀ from (from + i) 0 (omega (arith, length-take i (F s₀ (part w₀ from n))))
 
-    pub tested-turn : i < n → f s (get_or w (from + i) 0) < number_limit
-        → Tested F w₀ from n s₀ (set w (from + i) (f s (get_or w (from + i) 0))) (g s (get_or w (from + i) 0)) (i + 1)
+    pub tested-turn : i < n → f s (get_or w (from + i) 0) < number_limit → {y t : ℕ} → y ≡ f s (get_or w (from + i) 0) → t ≡ g s (get_or w (from + i) 0)
+        → Tested F w₀ from n s₀ (set w (from + i) y) t (i + 1)
     unfolding first_small
-    tested-turn h k =
-        let y = f s (get_or w (from + i) 0) in
+    tested-turn h k {y} ey et =
+        let z = f s (get_or w (from + i) 0) in
         let zs = F (g s (get_or w (from + i) 0)) (drop (i + 1) (part w₀ from n)) in
-        let first : first_small (y ∷ zs) ≡ suc (first_small zs) = rw (lt-ltb y number_limit k) in
-        record {
-          scan = scanning-turn is so.scan h same_here y refl;
+        let first : first_small (z ∷ zs) ≡ suc (first_small zs) = rw (lt-ltb z number_limit k) in
+        rw et
+        (record {
+          scan = scanning-turn is so.scan h same_here y ey;
           many = omega (arith, so.many, ap first_small (next-made is so.scan h same_here), first);
-        }
+        })
 
     tested-stop : first_small (F s (drop i (part w₀ from n))) ≡ 0 → Stored (F s₀ (part w₀ from n)) from w₀ w i
     tested-stop z = record { many = omega (arith, so.many); here = so.scan.here }
 
     -- a number is too large, or there is none more
-    pub tested-over : i < n → number_limit ≤ f s (get_or w (from + i) 0) → Stored (F s₀ (part w₀ from n)) from w₀ w i
+    pub tested-over : i < n → (f s (get_or w (from + i) 0) < number_limit → ⊥) → Stored (F s₀ (part w₀ from n)) from w₀ w i
     unfolding first_small
-    tested-over h k = tested-stop (ap first_small (next-made is so.scan h same_here) ∙ rw (le-ltb (f s (get_or w (from + i) 0)) number_limit k))
+    tested-over h k =
+        tested-stop (ap first_small (next-made is so.scan h same_here) ∙ rw (le-ltb (f s (get_or w (from + i) 0)) number_limit (omega (arith, k))))
 
-    pub tested-end : n ≤ i → Stored (F s₀ (part w₀ from n)) from w₀ w i
+    pub tested-end : n ≤ i → Stored (F s₀ (part w₀ from n)) from w₀ w n
     unfolding first_small
-    tested-end h = tested-stop (ap (λ (l : List ℕ). first_small (F s l)) (part_end w₀ from n i h) ∙ ap first_small (is.none s))
+    tested-end h =
+        let e : i ≡ n = omega (arith, so.scan.most) in
+        subst (Stored (F s₀ (part w₀ from n)) from w₀ w) e
+        (tested-stop (ap (λ (l : List ℕ). first_small (F s l)) (part_end w₀ from n i h) ∙ ap first_small (is.none s)))

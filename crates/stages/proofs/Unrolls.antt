@@ -1,5 +1,6 @@
 -- The loop that spreads runs, and what reading makes of it. Assumes nothing.
 use Prim.Native.Nat.{ℕ, zero, suc, ◌+◌, ◌-◌, ◌*◌, ◌≤◌, ◌<◌, min}
+use borrow.Rule.Slice.PartMut.{put_mid}
 use mathlib.Core.Path.{◌≡◌, refl, sym, ap, ap₂, ◌∙◌}
 use mathlib.Core.Bool.{true, false}
 use mathlib.Core.List.{List, [], ◌∷◌, ◌++◌, append_assoc, append-nil}
@@ -14,7 +15,7 @@ use Rattle.meaning.specs.Lists.{all, sum, differ}
 use Rattle.meaning.specs.Places.{part, Got}
 use Rattle.meaning.specs.Stages.{unroll, unrolled}
 use Rattle.meaning.specs.declared.Refusal.TheVariants as refusal
-use Rattle.meaning.proofs.Stores.{sets-append, take-sets, get_d_past}
+use Rattle.meaning.proofs.Stores.{sets-append, take-sets, get_d_past, mid-sets}
 use Rattle.meaning.proofs.Tests.{by_order, by-test, both_true}
 use Rattle.leaves.proofs.Joined.{sum-append}
 use Rattle.leaves.proofs.Parts.{part_length}
@@ -151,12 +152,19 @@ module _ {w₀ : List ℕ} {from n goal k : ℕ} {w : List ℕ} {s j : ℕ} (so 
       ∙ sym (length-take-le j ls (omega (arith, lengths-long, so.most))))
       ∙ sym so.laid.total
 
-  module _ (h : j < k) (less : s < goal) {l v : ℕ} (el : l ≡ get_or w (from + 2 * n + j) 0) (ev : v ≡ get_or w (from + n + j) 0) where
+  -- the next run's length and its value
+  abbrev l : ℕ
+  l = get_or w (from + 2 * n + j) 0
+
+  abbrev v : ℕ
+  v = get_or w (from + n + j) 0
+
+  module _ (h : j < k) (less : s < goal) where
     next-lengths : take (j + 1) ls ≡ take j ls ++ (l ∷ [])
-    next-lengths = rw (add-one, take-suc ls j 0 (omega (arith, lengths-long))) (ap (λ (x : ℕ). take j ls ++ (x ∷ [])) (sym (el ∙ length_at h)))
+    next-lengths = rw (add-one, take-suc ls j 0 (omega (arith, lengths-long))) (ap (λ (x : ℕ). take j ls ++ (x ∷ [])) (sym (length_at h)))
 
     next-values : take (j + 1) vs ≡ take j vs ++ (v ∷ [])
-    next-values = rw (add-one, take-suc vs j 0 (omega (arith, values-long))) (ap (λ (x : ℕ). take j vs ++ (x ∷ [])) (sym (ev ∙ value-at h)))
+    next-values = rw (add-one, take-suc vs j 0 (omega (arith, values-long))) (ap (λ (x : ℕ). take j vs ++ (x ∷ [])) (sym (value-at h)))
 
     -- run j is laid as well, as far as the goal
     next-laid : (m : ℕ) → m ≡ min (s + l) goal - s → take goal (unroll (take (j + 1) vs) (take (j + 1) ls)) ≡ unroll (take j vs) (take j ls) ++ replicate m v
@@ -171,29 +179,31 @@ module _ {w₀ : List ℕ} {from n goal k : ℕ} {w : List ℕ} {s j : ℕ} (so 
         ∙ take-append-add done (replicate l v) (goal - s)
         ∙ ap (λ (x : List ℕ). done ++ x) (take-replicate (goal - s) l m v (omega arith))
 
-    pub spreading-turn : run_fits n s l ≡ true → {x u : ℕ} → x ≡ l → u ≡ min (s + x) goal → {w' : List ℕ} → w' ≡ sets w (from + s) (replicate (u - s) v)
-        → Spreading w₀ from n goal k w' (s + x) (j + 1)
+    pub spreading-turn : run_fits n s l ≡ true → {u : ℕ} → u ≡ min (s + l) goal → {ys : List ℕ} → ys ≡ replicate (from + u - (from + s)) v
+        → Spreading w₀ from n goal k (put_mid (from + s) (from + u - (from + s)) w ys) (s + l) (j + 1)
     unfolding sum
-    spreading-turn fit {x} {u} ex eu {w'} e =
-        let m = u - s in
+    spreading-turn fit {u} eu {ys} e =
+        let m = from + u - (from + s) in
         let done = unroll (take j vs) (take j ls) in
         let (one, within) = fits-so n s l fit in
         let was : w ≡ sets w₀ from done = so.laid.here ∙ ap (sets w₀ from) (take_all goal done (omega (arith, laid-long))) in
         let place : from + s ≡ from + length done = omega (arith, laid-long) in
+        let now : put_mid (from + s) m w ys ≡ sets w (from + s) (replicate m v) =
+        rw e (mid-sets w (replicate m v) (from + s) m (length-replicate m v) (omega (arith, so.long, so.room, so.far))) in
         record {
           room = so.room;
           far = so.far;
           few = so.few;
           most = omega arith;
           within = omega arith;
-          long = ap length e ∙ length-sets w (from + s) (replicate m v) ∙ so.long;
+          long = ap length now ∙ length-sets w (from + s) (replicate m v) ∙ so.long;
           laid =
               record {
                 most = omega (arith, lengths-long);
                 some = rw next-lengths (all-next (take j ls) l so.laid.some one);
                 total = omega (arith, so.laid.total, ap sum next-lengths, sum-append (take j ls) (l ∷ []));
                 within = omega arith;
-                here = e
+                here = now
                     ∙ ap₂ (λ (a : List ℕ) (i : ℕ). sets a i (replicate m v)) was place
                     ∙ sets-append done (replicate m v) w₀ from
                     ∙ ap (sets w₀ from) (sym (next-laid m (omega arith)));
