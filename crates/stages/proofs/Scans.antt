@@ -3,7 +3,6 @@
 use Prim.Native.Nat.{ℕ, zero, suc, ◌+◌, ◌-◌, ◌≤◌, ◌<◌}
 use mathlib.Core.Path.{◌≡◌, refl, sym, ap, ap₂, ◌∙◌, subst}
 use mathlib.Core.List.{List, [], ◌∷◌, map}
-use native.Mathlib.Nat.{zero-add}
 use native.Mathlib.Numerals.{add-one}
 use native.Mathlib.Omega.{arith}
 use lib.ListN.{length, get_or, take, drop, set, length-set, length-take}
@@ -61,9 +60,6 @@ pub record Scanning (F : ℕ → List ℕ → List ℕ) (w₀ : List ℕ) (b fro
   pub rest : drop i (F s₀ (part w₀ from n)) ≡ F s (drop i (part w₀ from n))
 
 module _ {F : ℕ → List ℕ → List ℕ} {f g : ℕ → ℕ → ℕ} (is : Scan F f g) {w₀ : List ℕ} {b from n s₀ : ℕ} where
-  pub scanning-start : from + n ≤ length w₀ → Scanning F w₀ b from n s₀ w₀ s₀ 0
-  scanning-start room = record { room = room; most = omega arith; long = refl; here = refl; rest = refl }
-
   module _ {w : List ℕ} {s i : ℕ} (so : Scanning F w₀ b from n s₀ w s i) where
     abbrev all_made : List ℕ
     all_made = F s₀ (part w₀ from n)
@@ -115,9 +111,6 @@ pub record Tested (F : ℕ → List ℕ → List ℕ) (w₀ : List ℕ) (from n 
   pub many : first_small (F s₀ (part w₀ from n)) ≡ i + first_small (F s (drop i (part w₀ from n)))
 
 module _ {F : ℕ → List ℕ → List ℕ} {f g : ℕ → ℕ → ℕ} (is : Scan F f g) {w₀ : List ℕ} {from n s₀ : ℕ} where
-  pub tested-start : from + n ≤ length w₀ → Tested F w₀ from n s₀ w₀ s₀ 0
-  tested-start room = record { scan = scanning-start is room; many = sym (zero-add (first_small (F s₀ (part w₀ from n)))) }
-
   module _ {w : List ℕ} {s i : ℕ} (so : Tested F w₀ from n s₀ w s i) where
     same_here : get_or w (from + i) 0 ≡ get_or w₀ (from + i) 0
     same_here =

@@ -9,7 +9,7 @@ use native.Mathlib.Omega.{arith}
 use lib.Dec.{leb, eqb}
 use lib.ListN.{length, get_or, take, drop, replicate, length-take, length-replicate, replicate-append-replicate, take-append-drop}
 use lib.Seq.{sets, length-sets, length-take-le, take_all, take_at, take-suc, take-nil, take-append-add, drop-cons, get_or-take}
-use borrow.Author.Tests.{eq-eqb, ne_eqb, le-leb, lt-leb, leb-true, leb-false}
+use borrow.Author.Tests.{eq-eqb, ne_eqb, le-leb, leb-true, leb-false}
 use Rattle.std.specs.Prelude.{Ok, Err}
 use Rattle.meaning.specs.Lists.{all, sum, differ}
 use Rattle.meaning.specs.Places.{part, Got}
@@ -33,17 +33,6 @@ fits-so n s l e = let (a, b) = both_true (leb 1 l) (leb (s + l) n) e in (leb-tru
 pub so-fits : (n s l : ℕ) → 1 ≤ l → s + l ≤ n → run_fits n s l ≡ true
 unfolding run_fits
 so-fits n s l a b = rw (le-leb 1 l a, le-leb (s + l) n b)
-
-pub fits-empty : (n s l : ℕ) → l ≡ 0 → false ≡ run_fits n s l
-unfolding run_fits
-fits-empty n s l e = rw e
-
-pub fits-some : (n s l : ℕ) → s ≤ n → (l ≡ 0 → ⊥) → leb l (n - s) ≡ run_fits n s l
-unfolding run_fits
-fits-some n s l w e =
-    by_order n (s + l)
-    (λ h. lt-leb l (n - s) (omega arith) ∙ sym (rw (le-leb 1 l (omega arith), lt-leb (s + l) n h)))
-    (λ h. le-leb l (n - s) (omega arith) ∙ sym (so-fits n s l (omega arith) h))
 
 -- a run that does not fit is empty, or passes n
 not-fits : (n s l : ℕ) → run_fits n s l ≡ false → 1 ≤ l → n < s + l

@@ -6,7 +6,11 @@ use mathlib.Core.List.{List, [], ◌∷◌}
 use native.Mathlib.Nat.{suc-add}
 use native.Mathlib.Omega.{arith}
 use lib.ListN.{length, get_or}
+use denote.Param.Members.{Mut}
+use denote.Ref.{Bor}
+use Rattle.std.specs.Fn.{ComputesOnPairs, Called}
 use Rattle.std.specs.List.{IsAllAdjacentAnswer}
+use Rattle.std.proofs.lemmas.Fn.{always_returns_same}
 use Rattle.std.specs.Option.{MatchOption, unwrap_or}
 use Rattle.std.specs.Prelude.{Option, None, Some, sum as summed}
 use Rattle.std.proofs.lemmas.List.Sums.{sum_by-cons}
@@ -36,9 +40,16 @@ module _ (test : ℕ → ℕ → Bool) where
       go true q = q
       go false q = refl
 
-  pub adjacent-is : (xs : List ℕ) (r : Bool) → IsAllAdjacentAnswer (λ x y b. b ≡ test x y) xs r → r ≡ neighbours test xs
-  adjacent-is xs true h = all-pass xs h
-  adjacent-is xs false h = one-fails xs h.0 h.1 (h.2 0)
+  tells : (xs : List ℕ) (r : Bool) → IsAllAdjacentAnswer (λ x y b. b ≡ test x y) xs r → r ≡ neighbours test xs
+  tells xs true h = all-pass xs h
+  tells xs false h = one-fails xs h.0 h.1 (h.2 0)
+
+  -- what `is_sorted_by` answers, where its closure is the test
+  pub adjacent-is : (xs : List ℕ) (r : Bool) {F : Type 0} (g : Mut F (Bor ℕ × (Bor ℕ × Unit {0})) Bool) (f : F)
+      → ((e : ℕ → ℕ → Bool) → ComputesOnPairs g e f → IsAllAdjacentAnswer (λ x y b. b ≡ e x y) xs r)
+      → ((a : Bor ℕ × (Bor ℕ × Unit {0})) (r : Bool) (f' : F) → Called g f a r f' → (r ≡ test a.0.now a.1.0.now) × (f' ≡ f))
+      → r ≡ neighbours test xs
+  adjacent-is xs r g f cases same = tells xs r (cases test (always_returns_same g _ f same))
 
 -- ---- the least number: one of them, and none is below it
 least-below : (m n : ℕ) (xs : List ℕ) → m ≤ n → ((k : ℕ) → k < length xs → m ≤ get_or xs k 0) → m ≤ least_of n xs

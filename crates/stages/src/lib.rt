@@ -32,6 +32,7 @@ fn strict_in(list: &[u32]) -> bool
 }
 
 // Whether a list is of its kind, by the edition.
+#[tactic(auto, unfolding(meaning::specs::Sheet::of_kind))]
 pub fn of_kind(edition: u8, kind: u8, list: &[u32]) -> bool
     ensures { result ≡ of_kind edition kind list.now }
 {
@@ -170,14 +171,12 @@ pub struct Laid {
 }
 
 // Whether a run of so many numbers may follow `done` of n: it is not empty, and it ends within n.
+#[tactic(auto, unfolding(crate::specs::Runs::run_fits))]
 pub fn run_fits(n: usize, done: usize, length: u32) -> bool
     requires { done ≤ n }
     ensures { result ≡ run_fits n done length }
 {
-    if length == 0 {
-        return false;
-    }
-    length as usize <= n - done
+    length != 0 && length as usize <= n - done
 }
 
 // A run sought in some lengths: which of them it is, or how many numbers stand in their runs if it is none of them.
