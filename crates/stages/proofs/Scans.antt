@@ -1,6 +1,6 @@
 -- Loops that make a list of another, number by number, behind it or in its place: what is still to be stored, stored from here, is the whole.
 -- Assumes nothing.
-use Prim.Native.Nat.{ℕ, zero, suc, ◌+◌, ◌-◌, ◌≤◌, ◌<◌}
+use Prim.Native.Nat.{ℕ, suc, ◌+◌, ◌-◌, ◌≤◌, ◌<◌}
 use mathlib.Core.Path.{◌≡◌, refl, sym, ap, ap₂, ◌∙◌, subst}
 use mathlib.Core.List.{List, [], ◌∷◌, map}
 use native.Mathlib.Numerals.{add-one}
@@ -8,6 +8,7 @@ use native.Mathlib.Omega.{arith}
 use lib.ListN.{length, get_or, take, drop, set, length-set, length-take}
 use lib.Seq.{sets, take_all, drop-cons}
 use borrow.Author.Tests.{lt-ltb, le-ltb}
+use Rattle.std.proofs.lemmas.List.{get_or-map}
 use Rattle.meaning.specs.Limits.{number_limit}
 use Rattle.meaning.specs.Places.{part}
 use Rattle.meaning.specs.Stages.{less_before, sums_from}
@@ -47,9 +48,7 @@ scan-length F f g is s [] = ap length (is.none s)
 scan-length F f g is s (x ∷ xs) = ap length (is.next s x xs) ∙ ap suc (scan-length F f g is (g s x) xs)
 
 pub raised_at : (m : ℕ) (xs : List ℕ) (i : ℕ) → i < length xs → m + get_or xs i 0 ≡ get_or (raised_by m xs) i 0
-raised_at m [] i h = absurd (omega arith)
-raised_at m (x ∷ xs) zero h = refl
-raised_at m (x ∷ xs) (suc i) h = raised_at m xs i (omega arith)
+raised_at m xs i h = sym (get_or-map (λ (x : ℕ). m + x) xs i 0 0 h)
 
 -- ---- the loop: the list of n numbers stands from `from` on, what is made of it from b on; i numbers have been taken, the last led to the state s
 pub record Scanning (F : ℕ → List ℕ → List ℕ) (w₀ : List ℕ) (b from n s₀ : ℕ) (w : List ℕ) (s i : ℕ) : Type 0 where

@@ -7,10 +7,11 @@ use mathlib.Core.List.{List, [], ◌∷◌, ◌++◌, append_assoc, append-nil}
 use native.Mathlib.Numerals.{add-one}
 use native.Mathlib.Omega.{arith}
 use lib.Dec.{leb, eqb}
-use lib.ListN.{length, get_or, take, drop, replicate, length-take, length-replicate, replicate-append-replicate, take-append-drop}
-use lib.Seq.{sets, length-sets, length-take-le, take_all, take_at, take-suc, take-nil, take-append-add, drop-cons, get_or-take}
+use lib.ListN.{length, get_or, take, drop, replicate, length-take, length-replicate, take-append-drop}
+use lib.Seq.{sets, length-sets, length-take-le, take_all, take-suc, take-nil, take-append-add, drop-cons, get_or-take}
 use borrow.Author.Tests.{eq-eqb, ne_eqb, le-leb, leb-true, leb-false}
 use Rattle.std.specs.Prelude.{Ok, Err}
+use Rattle.std.proofs.lemmas.List.{take-replicate}
 use Rattle.meaning.specs.Lists.{all, sum, differ}
 use Rattle.meaning.specs.Places.{part, Got}
 use Rattle.meaning.specs.Stages.{unroll, unrolled}
@@ -53,17 +54,11 @@ unfolding all
 all-next [] l a h = rw (le-leb 1 l h)
 all-next (m ∷ ls) l a h = let (b, c) = both_true (leb 1 m) (all (leb 1) ls) a in rw b (all-next ls l c h)
 
-take-replicate : (k l m v : ℕ) → m ≡ min k l → take k (replicate l v) ≡ replicate m v
-take-replicate k l m v e =
+take-run : (k l m v : ℕ) → m ≡ min k l → take k (replicate l v) ≡ replicate m v
+take-run k l m v e =
     by_order k l
-    (λ h.
-    let d : l ≡ k + (l - k) = omega arith in
-    let cut : replicate l v ≡ replicate k v ++ replicate (l - k) v = ap (λ (i : ℕ). replicate i v) d ∙ sym (replicate-append-replicate k (l - k) v) in
-    let is : k ≡ m = omega arith in
-    ap (take k) cut ∙ take_at (replicate k v) (replicate (l - k) v) k (length-replicate k v) ∙ ap (λ (i : ℕ). replicate i v) is)
-    (λ h.
-    let is : l ≡ m = omega arith in
-    take_all k (replicate l v) (omega (arith, length-replicate l v)) ∙ ap (λ (i : ℕ). replicate i v) is)
+    (λ h. let is : m ≡ k = omega arith in rw is (take-replicate k l v (omega arith)))
+    (λ h. let is : m ≡ l = omega arith in rw is (take_all k (replicate l v) (omega (arith, length-replicate l v))))
 
 -- ---- what is laid stands there, and what is behind the goal is what it was
 module _ {vs ls : List ℕ} {n goal from : ℕ} {w w₁ : List ℕ} {j s : ℕ} (so : Laying vs ls n goal from w w₁ j s) where
@@ -166,7 +161,7 @@ module _ {w₀ : List ℕ} {from n goal k : ℕ} {w : List ℕ} {s j : ℕ} (so 
         ∙ ap (take goal) (unroll-next (take j vs) (take j ls) v l paired)
         ∙ ap (λ (i : ℕ). take i (done ++ replicate l v)) far
         ∙ take-append-add done (replicate l v) (goal - s)
-        ∙ ap (λ (x : List ℕ). done ++ x) (take-replicate (goal - s) l m v (omega arith))
+        ∙ ap (λ (x : List ℕ). done ++ x) (take-run (goal - s) l m v (omega arith))
 
     pub spreading-turn : run_fits n s l ≡ true → {u : ℕ} → u ≡ min (s + l) goal → {ys : List ℕ} → ys ≡ replicate (from + u - (from + s)) v
         → Spreading w₀ from n goal k (put_mid (from + s) (from + u - (from + s)) w ys) (s + l) (j + 1)
