@@ -39,13 +39,13 @@ module _ (a : Answer (List ℕ)) (from : ℕ) (w w₁ : List ℕ) (q : Result �
           let many : length xs ≡ n = cc in
           let is : part w₁ from n ≡ xs = ap (part w₁ from) (sym many) ∙ h xs refl in
           (ap (λ (l : List ℕ). given l) (sym is), ap length is ∙ many)
-      go (refused r) h t = let z : ◌≡◌ {A = ℕ} 0 1 = cc in absurd (omega arith)
+      go (refused r) h t = absurd (cc)
 
   pub got-not : (r : Refusal) → q ≡ Err r → a ≡ refused (refusal_number r)
   got-not r e = go a (sym (ap says e) ∙ so.told)
     where
       go : (b : Answer (List ℕ)) → refused (refusal_number r) ≡ amount b → b ≡ refused (refusal_number r)
-      go (given xs) t = let z : ◌≡◌ {A = ℕ} 0 1 = cc in absurd (omega arith)
+      go (given xs) t = cc
       go (refused s) t = let z : refusal_number r ≡ s = cc in ap (λ (k : ℕ). refused k) (sym z)
 
   module _ (f : List ℕ → Answer (List ℕ)) where

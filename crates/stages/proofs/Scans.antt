@@ -5,7 +5,7 @@ use mathlib.Core.Path.{◌≡◌, refl, sym, ap, ap₂, ◌∙◌, subst}
 use mathlib.Core.List.{List, [], ◌∷◌, map}
 use native.Mathlib.Numerals.{add-one}
 use native.Mathlib.Omega.{arith}
-use lib.ListN.{length, get_or, take, drop, set, length-set, length-take}
+use lib.ListN.{length, get_or, take, drop, set, length-take}
 use lib.Seq.{sets, take_all, drop-cons}
 use borrow.Author.Tests.{lt-ltb, le-ltb}
 use Rattle.std.proofs.lemmas.List.{get_or-map}
@@ -54,7 +54,6 @@ raised_at m xs i h = sym (get_or-map (λ (x : ℕ). m + x) xs i 0 0 h)
 pub record Scanning (F : ℕ → List ℕ → List ℕ) (w₀ : List ℕ) (b from n s₀ : ℕ) (w : List ℕ) (s i : ℕ) : Type 0 where
   pub room : from + n ≤ length w₀
   pub most : i ≤ n
-  pub long : length w ≡ length w₀
   pub here : w ≡ sets w₀ b (take i (F s₀ (part w₀ from n)))
   pub rest : drop i (F s₀ (part w₀ from n)) ≡ F s (drop i (part w₀ from n))
 
@@ -84,7 +83,6 @@ module _ {F : ℕ → List ℕ → List ℕ} {f g : ℕ → ℕ → ℕ} (is : S
           record {
             room = so.room;
             most = omega arith;
-            long = length-set w (b + i) y ∙ so.long;
             here = ap₂ (λ (l : List ℕ) (x : ℕ). set l (b + i) x) so.here (sym here) ∙ stored_next all_made w₀ b i below;
             rest = ap (λ (k : ℕ). drop k all_made) (add-one i) ∙ after;
           }

@@ -17,7 +17,6 @@ use Rattle.stages.proofs.Unrolls.{fits-so}
 
 -- ---- in the lengths of a list: the first j of them have been passed, which end after `end` numbers of n
 pub record Seeking (lengths : List ℕ) (n place done end j : ℕ) : Type 0 where
-  pub few : j ≤ length lengths
   pub within : end ≤ n
   pub passed : done + j ≤ end
   pub before : done ≤ place → end ≤ place
@@ -46,7 +45,6 @@ module _ {lengths : List ℕ} {n place done end j : ℕ} (s : Seeking lengths n 
       seeking-past c =
           let (some, fits) = fits-so n end (get_or lengths j 0) fit in
           record {
-            few = omega arith;
             within = fits;
             passed = omega (arith, s.passed);
             before = λ b. c;

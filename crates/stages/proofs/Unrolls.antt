@@ -88,9 +88,6 @@ pub record Spreading (w₀ : List ℕ) (from n goal k : ℕ) (w : List ℕ) (s j
   pub room : from + 3 * n ≤ length w₀
   pub far : goal ≤ n
   pub few : k ≤ n
-  pub most : j ≤ k
-  pub within : s ≤ n
-  pub long : length w ≡ length w₀
   pub laid : Laying (part w₀ (from + n) k) (part w₀ (from + 2 * n) k) n goal from w₀ w j s
 
 pub spreading-start : {w : List ℕ} {from n goal k : ℕ} → from + 3 * n ≤ length w → goal ≤ n → k ≤ n → Spreading w from n goal k w 0 0
@@ -100,9 +97,6 @@ spreading-start room far few =
       room = room;
       far = far;
       few = few;
-      most = omega arith;
-      within = omega arith;
-      long = refl;
       laid = record { most = omega arith; some = refl; total = refl; within = omega arith; here = rw take-nil };
     }
 
@@ -130,11 +124,14 @@ module _ {w₀ : List ℕ} {from n goal k : ℕ} {w : List ℕ} {s j : ℕ} (so 
   spreading-stop h =
       record { laid = so.laid; stops = λ a b. let l : j < k = omega (arith, lengths-long) in ap (run_fits n s) (sym (length_at l)) ∙ h a l }
 
+  paired : length (take j vs) ≡ length (take j ls)
+  paired = length-take-le j vs (omega (arith, values-long, lengths-long, so.laid.most)) ∙ sym (length-take-le j ls so.laid.most)
+
   laid-long : length (unroll (take j vs) (take j ls)) ≡ s
-  laid-long =
-      unroll-length (take j vs) (take j ls) (length-take-le j vs (omega (arith, values-long, so.most))
-      ∙ sym (length-take-le j ls (omega (arith, lengths-long, so.most))))
-      ∙ sym so.laid.total
+  laid-long = unroll-length (take j vs) (take j ls) paired ∙ sym so.laid.total
+
+  room_kept : length w ≡ length w₀
+  room_kept = ap length so.laid.here ∙ length-sets w₀ from (take goal (unroll (take j vs) (take j ls)))
 
   -- the next run's length and its value
   abbrev l : ℕ
@@ -154,8 +151,6 @@ module _ {w₀ : List ℕ} {from n goal k : ℕ} {w : List ℕ} {s j : ℕ} (so 
     next-laid : (m : ℕ) → m ≡ min (s + l) goal - s → take goal (unroll (take (j + 1) vs) (take (j + 1) ls)) ≡ unroll (take j vs) (take j ls) ++ replicate m v
     next-laid m em =
         let done = unroll (take j vs) (take j ls) in
-        let paired : length (take j vs) ≡ length (take j ls)
-        = length-take-le j vs (omega (arith, values-long)) ∙ sym (length-take-le j ls (omega (arith, lengths-long))) in
         let far : goal ≡ length done + (goal - s) = omega (arith, laid-long) in
         ap₂ (λ (a b : List ℕ). take goal (unroll a b)) next-values next-lengths
         ∙ ap (take goal) (unroll-next (take j vs) (take j ls) v l paired)
@@ -173,14 +168,11 @@ module _ {w₀ : List ℕ} {from n goal k : ℕ} {w : List ℕ} {s j : ℕ} (so 
         let was : w ≡ sets w₀ from done = so.laid.here ∙ ap (sets w₀ from) (take_all goal done (omega (arith, laid-long))) in
         let place : from + s ≡ from + length done = omega (arith, laid-long) in
         let now : put_mid (from + s) m w ys ≡ sets w (from + s) (replicate m v) =
-        rw e (mid-sets w (replicate m v) (from + s) m (length-replicate m v) (omega (arith, so.long, so.room, so.far))) in
+        rw e (mid-sets w (replicate m v) (from + s) m (length-replicate m v) (omega (arith, room_kept, so.room, so.far))) in
         record {
           room = so.room;
           far = so.far;
           few = so.few;
-          most = omega arith;
-          within = omega arith;
-          long = ap length now ∙ length-sets w (from + s) (replicate m v) ∙ so.long;
           laid =
               record {
                 most = omega (arith, lengths-long);
