@@ -15,7 +15,8 @@ use Rattle.meaning.specs.declared.Refusal.{Refusal}
 use Rattle.meaning.proofs.Answers.{not-given}
 use Rattle.meaning.proofs.Stores.{part-sets, take-sets}
 
-pub got-refused : (a : Answer (List ℕ)) (from : ℕ) (w w' : List ℕ) (e : Refusal) → a ≡ refused (refusal_number e) → take from w' ≡ take from w → Got a from w w' (Err e)
+pub got-refused : (a : Answer (List ℕ)) (from : ℕ) (w w' : List ℕ) (e : Refusal) → a ≡ refused (refusal_number e) → take from w' ≡ take from w
+    → Got a from w w' (Err e)
 got-refused a from w w' e is kept = record { told = ap amount (sym is); here = λ xs q. absurd (not-given (refusal_number e) xs (sym is ∙ q)); kept = kept }
 
 -- n numbers are given, and they have been stored from the place on
