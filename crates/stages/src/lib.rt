@@ -1,4 +1,5 @@
 // The work below the stages: lists live in one work slice, and what a stage makes of a list is made behind it or in its place.
+// kept: a list in work is told by its place and its count, since what is made of it goes behind it in the same slice.
 #![tactic(auto)]
 
 mod header;
