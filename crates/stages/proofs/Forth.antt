@@ -82,7 +82,7 @@ forth-runs p q xs l b i j =
 
 -- of kind any, nothing is needed of a list
 any-serves : (xs : List ℕ) → Serves any xs
-any-serves xs t = let z : ◌≡◌ {A = ℕ} 0 1 = cc in absurd (omega arith)
+any-serves xs t = cc
 
 module _ (laws : (c : ℕ) → Lawful (code_of c)) where
   forth-code : (c : ℕ) (xs : List ℕ) → length xs ≤ most_numbers → Below number_limit xs → Reads (code c) xs
@@ -93,7 +93,7 @@ module _ (laws : (c : ℕ) → Lawful (code_of c)) where
   pub forth : (p : Plan) (kind : ℕ) (xs : List ℕ) → passes kind p ≡ true → Serves kind xs → Below number_limit xs → length xs ≤ most_numbers
       → worst_plan p (length xs) < number_limit → read p (write p xs) (length xs) ≡ given xs
   unfolding passes worst_plan
-  forth bad kind xs s o h l w = let z : ◌≡◌ {A = ℕ} 0 1 = cc in absurd (omega arith)
+  forth bad kind xs s o h l w = cc
   forth (code c) kind xs s o h l w = forth-code c xs l h
   forth (reference p) kind xs s o h l w =
       let m = least xs in

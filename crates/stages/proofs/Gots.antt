@@ -15,7 +15,8 @@ use Rattle.meaning.specs.declared.Refusal.{Refusal}
 use Rattle.meaning.proofs.Answers.{not-given}
 use Rattle.meaning.proofs.Stores.{part-sets, take-sets}
 
-pub got-refused : (a : Answer (List ℕ)) (from : ℕ) (w w' : List ℕ) (e : Refusal) → a ≡ refused (refusal_number e) → take from w' ≡ take from w → Got a from w w' (Err e)
+pub got-refused : (a : Answer (List ℕ)) (from : ℕ) (w w' : List ℕ) (e : Refusal) → a ≡ refused (refusal_number e) → take from w' ≡ take from w
+    → Got a from w w' (Err e)
 got-refused a from w w' e is kept = record { told = ap amount (sym is); here = λ xs q. absurd (not-given (refusal_number e) xs (sym is ∙ q)); kept = kept }
 
 -- n numbers are given, and they have been stored from the place on
@@ -39,13 +40,13 @@ module _ (a : Answer (List ℕ)) (from : ℕ) (w w₁ : List ℕ) (q : Result �
           let many : length xs ≡ n = cc in
           let is : part w₁ from n ≡ xs = ap (part w₁ from) (sym many) ∙ h xs refl in
           (ap (λ (l : List ℕ). given l) (sym is), ap length is ∙ many)
-      go (refused r) h t = let z : ◌≡◌ {A = ℕ} 0 1 = cc in absurd (omega arith)
+      go (refused r) h t = absurd (cc)
 
   pub got-not : (r : Refusal) → q ≡ Err r → a ≡ refused (refusal_number r)
   got-not r e = go a (sym (ap says e) ∙ so.told)
     where
       go : (b : Answer (List ℕ)) → refused (refusal_number r) ≡ amount b → b ≡ refused (refusal_number r)
-      go (given xs) t = let z : ◌≡◌ {A = ℕ} 0 1 = cc in absurd (omega arith)
+      go (given xs) t = cc
       go (refused s) t = let z : refusal_number r ≡ s = cc in ap (λ (k : ℕ). refused k) (sym z)
 
   module _ (f : List ℕ → Answer (List ℕ)) where

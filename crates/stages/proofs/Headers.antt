@@ -1,11 +1,11 @@
 -- A run stage's header: what it tells, and how it is read. Assumes nothing.
-use Prim.Native.Nat.{ℕ, ◌+◌, ◌-◌, ◌≤◌, ◌<◌}
+use Prim.Native.Nat.{ℕ, ◌+◌, ◌-◌, ◌≤◌}
 use mathlib.Core.Path.{◌≡◌, sym, ap, ◌∙◌}
 use mathlib.Core.List.{List}
 use native.Mathlib.Omega.{arith}
 use lib.Dec.{leb}
 use lib.ListN.{length}
-use borrow.Author.Tests.{le-leb, lt-leb, leb-true}
+use borrow.Author.Tests.{leb-true}
 use Rattle.std.specs.Prelude.{Result, Ok, Err}
 use Rattle.meaning.specs.Answer.{Answer, given, refused, bind}
 use Rattle.meaning.specs.Bytes.{word_at}
@@ -16,32 +16,6 @@ use Rattle.meaning.specs.declared.Refusal.{Refusal}
 use Rattle.meaning.proofs.Answers.{not-given, bind-given, need-given}
 use Rattle.stages.specs.Header.{header_in, header_told}
 use Rattle.stages.specs.declared.header.Header.{Header}
-
--- ---- as it is read
-module _ (n : ℕ) (body : List ℕ) where
-  pub header-short : length body < 8 → refused cut_short ≡ header_in n body
-  unfolding header_in run_header
-  header-short h = rw (lt-leb 8 (length body) h)
-
-  module _ (long : 8 ≤ length body) {k : ℕ} (ek : k ≡ word_at body 0) where
-    pub header-many : n < k → refused broken ≡ header_in n body
-    unfolding header_in run_header
-    header-many h = let m : n < word_at body 0 = omega arith in rw (le-leb 8 (length body) long, lt-leb (word_at body 0) n m)
-
-    module _ {size : ℕ} (es : size ≡ word_at body 4) (few : k ≤ n) where
-      pub header-cut : length body - 8 < size → refused cut_short ≡ header_in n body
-      unfolding header_in run_header
-      header-cut h =
-          let a : word_at body 0 ≤ n = omega arith in
-          let b : length body - 8 < word_at body 4 = omega arith in
-          rw (le-leb 8 (length body) long, le-leb (word_at body 0) n a, lt-leb (word_at body 4) (length body - 8) b)
-
-      pub header_is : size ≤ length body - 8 → given (k, 8 + size) ≡ header_in n body
-      unfolding header_in run_header
-      header_is h =
-          let a : word_at body 0 ≤ n = omega arith in
-          let b : word_at body 4 ≤ length body - 8 = omega arith in
-          rw (ek, es, le-leb 8 (length body) long, le-leb (word_at body 0) n a, le-leb (word_at body 4) (length body - 8) b)
 
 -- ---- what it tells: k runs, whose values body ends at e
 pub record Headed (n : ℕ) (body : List ℕ) (k e : ℕ) : Type 0 where

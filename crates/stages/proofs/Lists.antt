@@ -88,16 +88,8 @@ kind-serves edition kind xs e t = by-edition (eqb edition 1) (rw t at e)
     by-edition true q = q
     by-edition false q = strict-rises xs q
 
--- whether a list is of its kind, by the kind and the edition
+-- a list that rises is of its kind in the editions after the first where it is strict
 module _ (edition kind : ℕ) (xs : List ℕ) where
-  pub of-any : (kind ≡ rising → ⊥) → true ≡ of_kind edition kind xs
-  unfolding of_kind
-  of-any h = rw (ne_eqb kind rising h)
-
-  pub of-first : kind ≡ rising → edition ≡ 1 → {r : Bool} → r ≡ rises xs → r ≡ of_kind edition kind xs
-  unfolding of_kind
-  of-first h q e = rw (eq-eqb kind rising h, eq-eqb edition 1 q) e
-
   pub of-later : kind ≡ rising → (edition ≡ 1 → ⊥) → {r : Bool} → r ≡ strict xs → r ≡ of_kind edition kind xs
   unfolding of_kind
   of-later h q e = rw (eq-eqb kind rising h, ne_eqb edition 1 q) e

@@ -125,7 +125,7 @@ module _ (laws : (c : ℕ) → Lawful (code_of c)) where
   stays-broken c b more e = over-broken c b more (λ s. apart (sym s ∙ e))
     where
       apart : ◌≡◌ {A = Answer (List ℕ)} (refused cut_short) (refused broken) → ⊥
-      apart q = let z : ◌≡◌ {A = ℕ} cut_short broken = cc in omega arith
+      apart q = cc
 
   -- a body that reads, cut before its end
   pub cut-before : (c : Column) (xs : List ℕ) (k : ℕ) → read_column c ≡ given xs → k < length c.body

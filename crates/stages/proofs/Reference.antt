@@ -15,11 +15,7 @@ use Rattle.meaning.specs.Stages.{least_of, least, small, raised}
 use Rattle.meaning.proofs.Answers.{need-given}
 use Rattle.stages.proofs.Lists.{below-small, small-below, rise-apart, rise-together, rise_one}
 use Rattle.stages.proofs.Scans.{less_by, raised_by}
-
-least_under : (m : ℕ) (xs : List ℕ) → least_of m xs ≤ m
-unfolding least_of
-least_under m [] = omega arith
-least_under m (x ∷ xs) = omega (arith, least_under (min m x) xs)
+use Rattle.stages.proofs.Walks.{least_under}
 
 pub least-below : (m : ℕ) (xs : List ℕ) → Below m xs → least xs < m
 unfolding least

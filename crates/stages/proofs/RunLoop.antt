@@ -1,10 +1,10 @@
 -- The loop that splits a list into its runs: what is still to be stored, stored from here, is the whole. Assumes nothing.
 use Prim.Native.Nat.{ℕ, suc, ◌+◌, ◌-◌, ◌*◌, ◌≤◌, ◌<◌}
-use mathlib.Core.Path.{◌≡◌, refl, sym, ap, ap₂, ◌∙◌}
+use mathlib.Core.Path.{◌≡◌, sym, ap, ap₂, ◌∙◌}
 use mathlib.Core.List.{List, [], ◌∷◌}
 use native.Mathlib.Nat.{add-zero, zero-add}
 use native.Mathlib.Omega.{arith}
-use lib.ListN.{length, get_or, take, drop, set, length-set, length-drop}
+use lib.ListN.{length, get_or, take, drop, set, length-drop}
 use lib.Seq.{sets, length-sets, get_or-take}
 use Rattle.meaning.specs.Places.{part}
 use Rattle.meaning.specs.Stages.{values_after, lengths_after, run_values, run_lengths}
@@ -20,7 +20,6 @@ pub record Running (w₀ : List ℕ) (from n : ℕ) (w : List ℕ) (v k j i : �
   pub behind : j < i
   pub most : i ≤ n
   pub short : k ≤ i
-  pub long : length w ≡ length w₀
   pub count : length (run_values (part w₀ from n)) ≡ j + length (values_after v (drop i (part w₀ from n)))
   pub rest : sets (sets w (from + n + j) (lengths_after v k (drop i (part w₀ from n)))) (from + 2 * n + j) (values_after v (drop i (part w₀ from n)))
       ≡ sets (sets w₀ (from + n) (run_lengths (part w₀ from n))) (from + 2 * n) (run_values (part w₀ from n))
@@ -57,7 +56,6 @@ running-start {w} {from} {n} room h =
       behind = omega arith;
       most = omega arith;
       short = omega arith;
-      long = refl;
       count = ap (λ (l : List ℕ). length (run_values l)) e ∙ sym (zero-add (length (values_after (get_or w from 0) (drop 1 (part w from n)))));
       rest = rw (add-zero (from + n), add-zero (from + 2 * n))
           (sym (ap (λ (l : List ℕ). sets (sets w (from + n) (run_lengths l)) (from + 2 * n) (run_values l)) e));
@@ -98,7 +96,6 @@ module _ {w₀ : List ℕ} {from n : ℕ} {w : List ℕ} {v k j i : ℕ} (so : R
         behind = omega (arith, so.behind);
         most = omega arith;
         short = omega (arith, so.short);
-        long = so.long;
         count = so.count ∙ ap (λ (m : List ℕ). j + length m) ev;
         rest = ap₂ (λ (a b : List ℕ). sets (sets w (from + n + j) a) (from + 2 * n + j) b) (sym el) (sym ev) ∙ so.rest;
       }
@@ -119,7 +116,6 @@ module _ {w₀ : List ℕ} {from n : ℕ} {w : List ℕ} {v k j i : ℕ} (so : R
         behind = omega (arith, so.behind);
         most = omega arith;
         short = omega arith;
-        long = length-set (set w (from + n + j) k) (from + 2 * n + j) v ∙ length-set w (from + n + j) k ∙ so.long;
         count = omega (arith, so.count, ap length ev);
         rest =
             rw (b, c) (two-stores w (lengths_after x 1 l) (values_after x l) (from + n + j) (from + 2 * n + j) k v

@@ -1,14 +1,14 @@
 -- Loops that make a list of another, number by number, behind it or in its place: what is still to be stored, stored from here, is the whole.
 -- Assumes nothing.
-use Prim.Native.Nat.{ℕ, zero, suc, ◌+◌, ◌-◌, ◌≤◌, ◌<◌}
-use mathlib.Core.Path.{◌≡◌, refl, sym, ap, ap₂, ◌∙◌}
+use Prim.Native.Nat.{ℕ, suc, ◌+◌, ◌-◌, ◌≤◌, ◌<◌}
+use mathlib.Core.Path.{◌≡◌, refl, sym, ap, ap₂, ◌∙◌, subst}
 use mathlib.Core.List.{List, [], ◌∷◌, map}
-use native.Mathlib.Nat.{zero-add}
 use native.Mathlib.Numerals.{add-one}
 use native.Mathlib.Omega.{arith}
-use lib.ListN.{length, get_or, take, drop, set, length-set, length-take}
+use lib.ListN.{length, get_or, take, drop, set, length-take}
 use lib.Seq.{sets, take_all, drop-cons}
 use borrow.Author.Tests.{lt-ltb, le-ltb}
+use Rattle.std.proofs.lemmas.List.{get_or-map}
 use Rattle.meaning.specs.Limits.{number_limit}
 use Rattle.meaning.specs.Places.{part}
 use Rattle.meaning.specs.Stages.{less_before, sums_from}
@@ -48,22 +48,16 @@ scan-length F f g is s [] = ap length (is.none s)
 scan-length F f g is s (x ∷ xs) = ap length (is.next s x xs) ∙ ap suc (scan-length F f g is (g s x) xs)
 
 pub raised_at : (m : ℕ) (xs : List ℕ) (i : ℕ) → i < length xs → m + get_or xs i 0 ≡ get_or (raised_by m xs) i 0
-raised_at m [] i h = absurd (omega arith)
-raised_at m (x ∷ xs) zero h = refl
-raised_at m (x ∷ xs) (suc i) h = raised_at m xs i (omega arith)
+raised_at m xs i h = sym (get_or-map (λ (x : ℕ). m + x) xs i 0 0 h)
 
 -- ---- the loop: the list of n numbers stands from `from` on, what is made of it from b on; i numbers have been taken, the last led to the state s
 pub record Scanning (F : ℕ → List ℕ → List ℕ) (w₀ : List ℕ) (b from n s₀ : ℕ) (w : List ℕ) (s i : ℕ) : Type 0 where
   pub room : from + n ≤ length w₀
   pub most : i ≤ n
-  pub long : length w ≡ length w₀
   pub here : w ≡ sets w₀ b (take i (F s₀ (part w₀ from n)))
   pub rest : drop i (F s₀ (part w₀ from n)) ≡ F s (drop i (part w₀ from n))
 
 module _ {F : ℕ → List ℕ → List ℕ} {f g : ℕ → ℕ → ℕ} (is : Scan F f g) {w₀ : List ℕ} {b from n s₀ : ℕ} where
-  pub scanning-start : from + n ≤ length w₀ → Scanning F w₀ b from n s₀ w₀ s₀ 0
-  scanning-start room = record { room = room; most = omega arith; long = refl; here = refl; rest = refl }
-
   module _ {w : List ℕ} {s i : ℕ} (so : Scanning F w₀ b from n s₀ w s i) where
     abbrev all_made : List ℕ
     all_made = F s₀ (part w₀ from n)
@@ -89,7 +83,6 @@ module _ {F : ℕ → List ℕ → List ℕ} {f g : ℕ → ℕ → ℕ} (is : S
           record {
             room = so.room;
             most = omega arith;
-            long = length-set w (b + i) y ∙ so.long;
             here = ap₂ (λ (l : List ℕ) (x : ℕ). set l (b + i) x) so.here (sym here) ∙ stored_next all_made w₀ b i below;
             rest = ap (λ (k : ℕ). drop k all_made) (add-one i) ∙ after;
           }
@@ -115,35 +108,37 @@ pub record Tested (F : ℕ → List ℕ → List ℕ) (w₀ : List ℕ) (from n 
   pub many : first_small (F s₀ (part w₀ from n)) ≡ i + first_small (F s (drop i (part w₀ from n)))
 
 module _ {F : ℕ → List ℕ → List ℕ} {f g : ℕ → ℕ → ℕ} (is : Scan F f g) {w₀ : List ℕ} {from n s₀ : ℕ} where
-  pub tested-start : from + n ≤ length w₀ → Tested F w₀ from n s₀ w₀ s₀ 0
-  tested-start room = record { scan = scanning-start is room; many = sym (zero-add (first_small (F s₀ (part w₀ from n)))) }
-
   module _ {w : List ℕ} {s i : ℕ} (so : Tested F w₀ from n s₀ w s i) where
     same_here : get_or w (from + i) 0 ≡ get_or w₀ (from + i) 0
     same_here =
         let made = take i (F s₀ (part w₀ from n)) in
         ap (λ (l : List ℕ). get_or l (from + i) 0) so.scan.here ∙ get_d_past made w₀ from (from + i) 0 (omega (arith, length-take i (F s₀ (part w₀ from n))))
 
-    pub tested-turn : i < n → f s (get_or w (from + i) 0) < number_limit
-        → Tested F w₀ from n s₀ (set w (from + i) (f s (get_or w (from + i) 0))) (g s (get_or w (from + i) 0)) (i + 1)
+    pub tested-turn : i < n → f s (get_or w (from + i) 0) < number_limit → {y t : ℕ} → y ≡ f s (get_or w (from + i) 0) → t ≡ g s (get_or w (from + i) 0)
+        → Tested F w₀ from n s₀ (set w (from + i) y) t (i + 1)
     unfolding first_small
-    tested-turn h k =
-        let y = f s (get_or w (from + i) 0) in
+    tested-turn h k {y} ey et =
+        let z = f s (get_or w (from + i) 0) in
         let zs = F (g s (get_or w (from + i) 0)) (drop (i + 1) (part w₀ from n)) in
-        let first : first_small (y ∷ zs) ≡ suc (first_small zs) = rw (lt-ltb y number_limit k) in
-        record {
-          scan = scanning-turn is so.scan h same_here y refl;
+        let first : first_small (z ∷ zs) ≡ suc (first_small zs) = rw (lt-ltb z number_limit k) in
+        rw et
+        (record {
+          scan = scanning-turn is so.scan h same_here y ey;
           many = omega (arith, so.many, ap first_small (next-made is so.scan h same_here), first);
-        }
+        })
 
     tested-stop : first_small (F s (drop i (part w₀ from n))) ≡ 0 → Stored (F s₀ (part w₀ from n)) from w₀ w i
     tested-stop z = record { many = omega (arith, so.many); here = so.scan.here }
 
     -- a number is too large, or there is none more
-    pub tested-over : i < n → number_limit ≤ f s (get_or w (from + i) 0) → Stored (F s₀ (part w₀ from n)) from w₀ w i
+    pub tested-over : i < n → (f s (get_or w (from + i) 0) < number_limit → ⊥) → Stored (F s₀ (part w₀ from n)) from w₀ w i
     unfolding first_small
-    tested-over h k = tested-stop (ap first_small (next-made is so.scan h same_here) ∙ rw (le-ltb (f s (get_or w (from + i) 0)) number_limit k))
+    tested-over h k =
+        tested-stop (ap first_small (next-made is so.scan h same_here) ∙ rw (le-ltb (f s (get_or w (from + i) 0)) number_limit (omega (arith, k))))
 
-    pub tested-end : n ≤ i → Stored (F s₀ (part w₀ from n)) from w₀ w i
+    pub tested-end : n ≤ i → Stored (F s₀ (part w₀ from n)) from w₀ w n
     unfolding first_small
-    tested-end h = tested-stop (ap (λ (l : List ℕ). first_small (F s l)) (part_end w₀ from n i h) ∙ ap first_small (is.none s))
+    tested-end h =
+        let e : i ≡ n = omega (arith, so.scan.most) in
+        subst (Stored (F s₀ (part w₀ from n)) from w₀ w) e
+        (tested-stop (ap (λ (l : List ℕ). first_small (F s l)) (part_end w₀ from n i h) ∙ ap first_small (is.none s)))

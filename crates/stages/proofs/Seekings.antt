@@ -1,9 +1,8 @@
 -- A run sought in the lengths of a list (`seek_in`). Assumes nothing.
 use Prim.Native.Nat.{ℕ, ◌+◌, ◌-◌, ◌≤◌, ◌<◌}
-use mathlib.Core.Path.{◌≡◌, ap, ◌∙◌}
+use mathlib.Core.Path.{◌≡◌, ◌∙◌}
 use mathlib.Core.Bool.{true, false}
 use mathlib.Core.List.{List}
-use native.Mathlib.Nat.{add-zero, sub-zero}
 use native.Mathlib.Omega.{arith}
 use lib.ListN.{length, get_or}
 use Rattle.std.specs.Prelude.{Ok, Err}
@@ -18,28 +17,13 @@ use Rattle.stages.proofs.Unrolls.{fits-so}
 
 -- ---- in the lengths of a list: the first j of them have been passed, which end after `end` numbers of n
 pub record Seeking (lengths : List ℕ) (n place done end j : ℕ) : Type 0 where
-  pub few : j ≤ length lengths
   pub within : end ≤ n
   pub passed : done + j ≤ end
   pub before : done ≤ place → end ≤ place
   pub so : (length_at : ℕ → Answer ℕ) (k m : ℕ) → ((i : ℕ) → i < length lengths → length_at (m + i) ≡ given (get_or lengths i 0)) → length lengths ≤ k
       → seek length_at n place k m done ≡ seek length_at n place (k - j) (m + j) end
 
-pub seeking-start : {lengths : List ℕ} {n place done : ℕ} → done ≤ n → Seeking lengths n place done done 0
-seeking-start {place = place} {done = done} h =
-    record { few = omega arith; within = h; passed = omega arith; before = λ b. b; so = λ length_at k m f b. rw (add-zero m, sub-zero k) }
-
 module _ {lengths : List ℕ} {n place done end j : ℕ} (s : Seeking lengths n place done end j) where
-  -- all have been passed
-  pub seeking-end : length lengths ≤ j → Seeks lengths n place done (Ok (sought.After (record { number = end })))
-  seeking-end h =
-      let e : j ≡ length lengths = omega (arith, s.few) in
-      record {
-        told = λ length_at k m f b. s.so length_at k m f b ∙ ap (λ (i : ℕ). seek length_at n place (k - i) (m + i) end) e;
-        within =
-            (s.within, omega (arith, s.passed), s.before);
-      }
-
   module _ (h : j < length lengths) where
     pub seeking-breaks : run_fits n end (get_or lengths j 0) ≡ false → Seeks lengths n place done (Err refusal.Broken)
     seeking-breaks f =
@@ -61,7 +45,6 @@ module _ {lengths : List ℕ} {n place done end j : ℕ} (s : Seeking lengths n 
       seeking-past c =
           let (some, fits) = fits-so n end (get_or lengths j 0) fit in
           record {
-            few = omega arith;
             within = fits;
             passed = omega (arith, s.passed);
             before = λ b. c;

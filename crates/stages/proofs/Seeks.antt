@@ -39,7 +39,7 @@ module _ (at : ℕ → Answer ℕ) (n place k j s : ℕ) where
         where
           go : (a b : Bool) → a && b ≡ false
               → need a broken (need b broken (cond (ltb place (s + l)) (given j) (seek at n place (k - 1) (j + 1) (s + l)))) ≡ refused broken
-          go true true f = absurd (let z : ◌≡◌ {A = ℕ} 0 1 = cc in omega arith)
+          go true true f = cc
           go true false f = cc
           go false b f = cc
 

@@ -33,7 +33,7 @@ within-over x h = rw (le-ltb x number_limit h)
 
 -- a refusal of one thing is that of another
 refused-too : {A B : Type 0} (z e : ℕ) → ◌≡◌ {A = Answer A} (refused z) (refused e) → ◌≡◌ {A = Answer B} (refused z) (refused e)
-refused-too z e h = let q : z ≡ e = cc in ap (λ (k : ℕ). refused k) q
+refused-too z e h = cc
 
 -- what goes on to give, and is refused, was refused before
 bind-refused : {A B : Type 0} (m : Answer A) (f : A → B) (e : ℕ) → bind m (λ a. given (f a)) ≡ refused e → m ≡ refused e

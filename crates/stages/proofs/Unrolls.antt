@@ -1,20 +1,22 @@
 -- The loop that spreads runs, and what reading makes of it. Assumes nothing.
 use Prim.Native.Nat.{ℕ, zero, suc, ◌+◌, ◌-◌, ◌*◌, ◌≤◌, ◌<◌, min}
+use borrow.Rule.Slice.PartMut.{put_mid}
 use mathlib.Core.Path.{◌≡◌, refl, sym, ap, ap₂, ◌∙◌}
 use mathlib.Core.Bool.{true, false}
 use mathlib.Core.List.{List, [], ◌∷◌, ◌++◌, append_assoc, append-nil}
 use native.Mathlib.Numerals.{add-one}
 use native.Mathlib.Omega.{arith}
 use lib.Dec.{leb, eqb}
-use lib.ListN.{length, get_or, take, drop, replicate, length-take, length-replicate, replicate-append-replicate, take-append-drop}
-use lib.Seq.{sets, length-sets, length-take-le, take_all, take_at, take-suc, take-nil, take-append-add, drop-cons, get_or-take}
-use borrow.Author.Tests.{eq-eqb, ne_eqb, le-leb, lt-leb, leb-true, leb-false}
+use lib.ListN.{length, get_or, take, drop, replicate, length-take, length-replicate, take-append-drop}
+use lib.Seq.{sets, length-sets, length-take-le, take_all, take-suc, take-nil, take-append-add, drop-cons, get_or-take}
+use borrow.Author.Tests.{eq-eqb, ne_eqb, le-leb, leb-true, leb-false}
 use Rattle.std.specs.Prelude.{Ok, Err}
+use Rattle.std.proofs.lemmas.List.{take-replicate}
 use Rattle.meaning.specs.Lists.{all, sum, differ}
 use Rattle.meaning.specs.Places.{part, Got}
 use Rattle.meaning.specs.Stages.{unroll, unrolled}
 use Rattle.meaning.specs.declared.Refusal.TheVariants as refusal
-use Rattle.meaning.proofs.Stores.{sets-append, take-sets, get_d_past}
+use Rattle.meaning.proofs.Stores.{sets-append, take-sets, get_d_past, mid-sets}
 use Rattle.meaning.proofs.Tests.{by_order, by-test, both_true}
 use Rattle.leaves.proofs.Joined.{sum-append}
 use Rattle.leaves.proofs.Parts.{part_length}
@@ -32,17 +34,6 @@ fits-so n s l e = let (a, b) = both_true (leb 1 l) (leb (s + l) n) e in (leb-tru
 pub so-fits : (n s l : ℕ) → 1 ≤ l → s + l ≤ n → run_fits n s l ≡ true
 unfolding run_fits
 so-fits n s l a b = rw (le-leb 1 l a, le-leb (s + l) n b)
-
-pub fits-empty : (n s l : ℕ) → l ≡ 0 → false ≡ run_fits n s l
-unfolding run_fits
-fits-empty n s l e = rw e
-
-pub fits-some : (n s l : ℕ) → s ≤ n → (l ≡ 0 → ⊥) → leb l (n - s) ≡ run_fits n s l
-unfolding run_fits
-fits-some n s l w e =
-    by_order n (s + l)
-    (λ h. lt-leb l (n - s) (omega arith) ∙ sym (rw (le-leb 1 l (omega arith), lt-leb (s + l) n h)))
-    (λ h. le-leb l (n - s) (omega arith) ∙ sym (so-fits n s l (omega arith) h))
 
 -- a run that does not fit is empty, or passes n
 not-fits : (n s l : ℕ) → run_fits n s l ≡ false → 1 ≤ l → n < s + l
@@ -63,17 +54,11 @@ unfolding all
 all-next [] l a h = rw (le-leb 1 l h)
 all-next (m ∷ ls) l a h = let (b, c) = both_true (leb 1 m) (all (leb 1) ls) a in rw b (all-next ls l c h)
 
-take-replicate : (k l m v : ℕ) → m ≡ min k l → take k (replicate l v) ≡ replicate m v
-take-replicate k l m v e =
+take-run : (k l m v : ℕ) → m ≡ min k l → take k (replicate l v) ≡ replicate m v
+take-run k l m v e =
     by_order k l
-    (λ h.
-    let d : l ≡ k + (l - k) = omega arith in
-    let cut : replicate l v ≡ replicate k v ++ replicate (l - k) v = ap (λ (i : ℕ). replicate i v) d ∙ sym (replicate-append-replicate k (l - k) v) in
-    let is : k ≡ m = omega arith in
-    ap (take k) cut ∙ take_at (replicate k v) (replicate (l - k) v) k (length-replicate k v) ∙ ap (λ (i : ℕ). replicate i v) is)
-    (λ h.
-    let is : l ≡ m = omega arith in
-    take_all k (replicate l v) (omega (arith, length-replicate l v)) ∙ ap (λ (i : ℕ). replicate i v) is)
+    (λ h. let is : m ≡ k = omega arith in rw is (take-replicate k l v (omega arith)))
+    (λ h. let is : m ≡ l = omega arith in rw is (take_all k (replicate l v) (omega (arith, length-replicate l v))))
 
 -- ---- what is laid stands there, and what is behind the goal is what it was
 module _ {vs ls : List ℕ} {n goal from : ℕ} {w w₁ : List ℕ} {j s : ℕ} (so : Laying vs ls n goal from w w₁ j s) where
@@ -103,9 +88,6 @@ pub record Spreading (w₀ : List ℕ) (from n goal k : ℕ) (w : List ℕ) (s j
   pub room : from + 3 * n ≤ length w₀
   pub far : goal ≤ n
   pub few : k ≤ n
-  pub most : j ≤ k
-  pub within : s ≤ n
-  pub long : length w ≡ length w₀
   pub laid : Laying (part w₀ (from + n) k) (part w₀ (from + 2 * n) k) n goal from w₀ w j s
 
 pub spreading-start : {w : List ℕ} {from n goal k : ℕ} → from + 3 * n ≤ length w → goal ≤ n → k ≤ n → Spreading w from n goal k w 0 0
@@ -115,9 +97,6 @@ spreading-start room far few =
       room = room;
       far = far;
       few = few;
-      most = omega arith;
-      within = omega arith;
-      long = refl;
       laid = record { most = omega arith; some = refl; total = refl; within = omega arith; here = rw take-nil };
     }
 
@@ -145,55 +124,62 @@ module _ {w₀ : List ℕ} {from n goal k : ℕ} {w : List ℕ} {s j : ℕ} (so 
   spreading-stop h =
       record { laid = so.laid; stops = λ a b. let l : j < k = omega (arith, lengths-long) in ap (run_fits n s) (sym (length_at l)) ∙ h a l }
 
-  laid-long : length (unroll (take j vs) (take j ls)) ≡ s
-  laid-long =
-      unroll-length (take j vs) (take j ls) (length-take-le j vs (omega (arith, values-long, so.most))
-      ∙ sym (length-take-le j ls (omega (arith, lengths-long, so.most))))
-      ∙ sym so.laid.total
+  paired : length (take j vs) ≡ length (take j ls)
+  paired = length-take-le j vs (omega (arith, values-long, lengths-long, so.laid.most)) ∙ sym (length-take-le j ls so.laid.most)
 
-  module _ (h : j < k) (less : s < goal) {l v : ℕ} (el : l ≡ get_or w (from + 2 * n + j) 0) (ev : v ≡ get_or w (from + n + j) 0) where
+  laid-long : length (unroll (take j vs) (take j ls)) ≡ s
+  laid-long = unroll-length (take j vs) (take j ls) paired ∙ sym so.laid.total
+
+  room_kept : length w ≡ length w₀
+  room_kept = ap length so.laid.here ∙ length-sets w₀ from (take goal (unroll (take j vs) (take j ls)))
+
+  -- the next run's length and its value
+  abbrev l : ℕ
+  l = get_or w (from + 2 * n + j) 0
+
+  abbrev v : ℕ
+  v = get_or w (from + n + j) 0
+
+  module _ (h : j < k) (less : s < goal) where
     next-lengths : take (j + 1) ls ≡ take j ls ++ (l ∷ [])
-    next-lengths = rw (add-one, take-suc ls j 0 (omega (arith, lengths-long))) (ap (λ (x : ℕ). take j ls ++ (x ∷ [])) (sym (el ∙ length_at h)))
+    next-lengths = rw (add-one, take-suc ls j 0 (omega (arith, lengths-long))) (ap (λ (x : ℕ). take j ls ++ (x ∷ [])) (sym (length_at h)))
 
     next-values : take (j + 1) vs ≡ take j vs ++ (v ∷ [])
-    next-values = rw (add-one, take-suc vs j 0 (omega (arith, values-long))) (ap (λ (x : ℕ). take j vs ++ (x ∷ [])) (sym (ev ∙ value-at h)))
+    next-values = rw (add-one, take-suc vs j 0 (omega (arith, values-long))) (ap (λ (x : ℕ). take j vs ++ (x ∷ [])) (sym (value-at h)))
 
     -- run j is laid as well, as far as the goal
     next-laid : (m : ℕ) → m ≡ min (s + l) goal - s → take goal (unroll (take (j + 1) vs) (take (j + 1) ls)) ≡ unroll (take j vs) (take j ls) ++ replicate m v
     next-laid m em =
         let done = unroll (take j vs) (take j ls) in
-        let paired : length (take j vs) ≡ length (take j ls)
-        = length-take-le j vs (omega (arith, values-long)) ∙ sym (length-take-le j ls (omega (arith, lengths-long))) in
         let far : goal ≡ length done + (goal - s) = omega (arith, laid-long) in
         ap₂ (λ (a b : List ℕ). take goal (unroll a b)) next-values next-lengths
         ∙ ap (take goal) (unroll-next (take j vs) (take j ls) v l paired)
         ∙ ap (λ (i : ℕ). take i (done ++ replicate l v)) far
         ∙ take-append-add done (replicate l v) (goal - s)
-        ∙ ap (λ (x : List ℕ). done ++ x) (take-replicate (goal - s) l m v (omega arith))
+        ∙ ap (λ (x : List ℕ). done ++ x) (take-run (goal - s) l m v (omega arith))
 
-    pub spreading-turn : run_fits n s l ≡ true → {x u : ℕ} → x ≡ l → u ≡ min (s + x) goal → {w' : List ℕ} → w' ≡ sets w (from + s) (replicate (u - s) v)
-        → Spreading w₀ from n goal k w' (s + x) (j + 1)
+    pub spreading-turn : run_fits n s l ≡ true → {u : ℕ} → u ≡ min (s + l) goal → {ys : List ℕ} → ys ≡ replicate (from + u - (from + s)) v
+        → Spreading w₀ from n goal k (put_mid (from + s) (from + u - (from + s)) w ys) (s + l) (j + 1)
     unfolding sum
-    spreading-turn fit {x} {u} ex eu {w'} e =
-        let m = u - s in
+    spreading-turn fit {u} eu {ys} e =
+        let m = from + u - (from + s) in
         let done = unroll (take j vs) (take j ls) in
         let (one, within) = fits-so n s l fit in
         let was : w ≡ sets w₀ from done = so.laid.here ∙ ap (sets w₀ from) (take_all goal done (omega (arith, laid-long))) in
         let place : from + s ≡ from + length done = omega (arith, laid-long) in
+        let now : put_mid (from + s) m w ys ≡ sets w (from + s) (replicate m v) =
+        rw e (mid-sets w (replicate m v) (from + s) m (length-replicate m v) (omega (arith, room_kept, so.room, so.far))) in
         record {
           room = so.room;
           far = so.far;
           few = so.few;
-          most = omega arith;
-          within = omega arith;
-          long = ap length e ∙ length-sets w (from + s) (replicate m v) ∙ so.long;
           laid =
               record {
                 most = omega (arith, lengths-long);
                 some = rw next-lengths (all-next (take j ls) l so.laid.some one);
                 total = omega (arith, so.laid.total, ap sum next-lengths, sum-append (take j ls) (l ∷ []));
                 within = omega arith;
-                here = e
+                here = now
                     ∙ ap₂ (λ (a : List ℕ) (i : ℕ). sets a i (replicate m v)) was place
                     ∙ sets-append done (replicate m v) w₀ from
                     ∙ ap (sets w₀ from) (sym (next-laid m (omega arith)));

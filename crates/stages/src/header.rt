@@ -14,6 +14,7 @@ pub struct Header {
 }
 
 // A run stage's header: it fits, then its count is at most n, then the values body fits.
+#[tactic(auto, unfolding(crate::specs::Header::header_in, meaning::specs::Stages::run_header))]
 pub fn header_of(body: &[u8], n: usize) -> Result<Header, Refusal>
     ensures { says_by header_told result ≡ header_in n body.now }
 {

@@ -1,4 +1,5 @@
 // The work below the stages: lists live in one work slice, and what a stage makes of a list is made behind it or in its place.
+// kept: a list in work is told by its place and its count, since what is made of it goes behind it in the same slice.
 #![tactic(auto)]
 
 mod header;
@@ -17,22 +18,6 @@ ghost use Rattle.stages.specs.Seeks.{Seeks};
 pub use header::{Header, header_of};
 use meaning::{FIRST_EDITION, Place, RISING, Refusal};
 
-// The largest number.
-const MOST: u32 = 4294967295;
-
-fn smaller(a: u32, b: u32) -> u32
-    ensures { result ≡ min a b }
-{
-    if a < b { a } else { b }
-}
-
-// a less b, 0 where b is more.
-fn less(a: u32, b: u32) -> u32
-    ensures { result ≡ a - b }
-{
-    if a < b { 0 } else { a - b }
-}
-
 // Whether no number of a list is below the one before.
 fn rises_in(list: &[u32]) -> bool
     ensures { result ≡ rises list.now }
@@ -48,6 +33,7 @@ fn strict_in(list: &[u32]) -> bool
 }
 
 // Whether a list is of its kind, by the edition.
+#[tactic(auto, unfolding(meaning::specs::Sheet::of_kind))]
 pub fn of_kind(edition: u8, kind: u8, list: &[u32]) -> bool
     ensures { result ≡ of_kind edition kind list.now }
 {
@@ -81,12 +67,8 @@ pub fn less_into(work: &mut [u32], from: Place, n: usize, m: u32)
     ensures { work.new ≡ sets work.old (from.number + n) (map (λ (x : ℕ). x - m) (part work.old from.number n)) }
 {
     let first = from.number;
-    let mut i = 0;
-    while i < n {
-        let x = work[first + i];
-        let y = less(x, m);
-        work[first + n + i] = y;
-        i += 1;
+    for i in 0..n {
+        work[first + n + i] = work[first + i].saturating_sub(m);
     }
 }
 
@@ -96,14 +78,11 @@ pub fn gaps_into(work: &mut [u32], from: Place, n: usize)
     ensures { work.new ≡ sets work.old (from.number + n) (less_before 0 (part work.old from.number n)) }
 {
     let first = from.number;
-    let mut v: u32 = 0;
-    let mut i = 0;
-    while i < n {
+    let mut v = 0;
+    for i in 0..n {
         let x = work[first + i];
-        let y = less(x, v);
-        work[first + n + i] = y;
+        work[first + n + i] = x.saturating_sub(v);
         v = x;
-        i += 1;
     }
 }
 
@@ -119,10 +98,8 @@ pub fn runs_into(work: &mut [u32], from: Place, n: usize) -> usize
     let mut v = work[first];
     let mut k: u32 = 1;
     let mut j = 0;
-    let mut i = 1;
-    while i < n {
+    for i in 1..n {
         let x = work[first + i];
-        i += 1;
         if x == v {
             k += 1;
         } else {
@@ -145,16 +122,13 @@ pub fn raise_firsts(work: &mut [u32], from: Place, n: usize, m: u32) -> usize
     ensures { Stored (map (λ (x : ℕ). m + x) (part work.old from.number n)) from.number work.old work.new result }
 {
     let first = from.number;
-    let mut i = 0;
-    while i < n {
-        let x = work[first + i];
-        if MOST - m < x {
+    for i in 0..n {
+        let Some(y) = m.checked_add(work[first + i]) else {
             return i;
-        }
-        work[first + i] = m + x;
-        i += 1;
+        };
+        work[first + i] = y;
     }
-    i
+    n
 }
 
 // Each number of a list becomes its sum with all before, up to the first that is too large. Answers how many.
@@ -164,17 +138,14 @@ pub fn sum_firsts(work: &mut [u32], from: Place, n: usize) -> usize
 {
     let first = from.number;
     let mut s: u32 = 0;
-    let mut i = 0;
-    while i < n {
-        let x = work[first + i];
-        if MOST - s < x {
+    for i in 0..n {
+        let Some(y) = s.checked_add(work[first + i]) else {
             return i;
-        }
-        s = s + x;
-        work[first + i] = s;
-        i += 1;
+        };
+        work[first + i] = y;
+        s = y;
     }
-    i
+    n
 }
 
 // A list is copied to the start of another.
@@ -193,15 +164,6 @@ pub fn total_of(list: &[u32]) -> u64
     list.iter().map(|&x| u64::from(x)).sum()
 }
 
-// One value, n times over.
-fn fill(work: &mut [u32], from: Place, n: usize, v: u32)
-    requires { from.number + n ≤ length work.old }
-    ensures { work.new ≡ sets work.old from.number (replicate n v) }
-{
-    let first = from.number;
-    work[first..first + n].fill(v);
-}
-
 // How many runs are laid, and how many numbers they hold.
 #[derive(Clone, Copy)]
 pub struct Laid {
@@ -210,14 +172,12 @@ pub struct Laid {
 }
 
 // Whether a run of so many numbers may follow `done` of n: it is not empty, and it ends within n.
+#[tactic(auto, unfolding(crate::specs::Runs::run_fits))]
 pub fn run_fits(n: usize, done: usize, length: u32) -> bool
     requires { done ≤ n }
     ensures { result ≡ run_fits n done length }
 {
-    if length == 0 {
-        return false;
-    }
-    length as usize <= n - done
+    length != 0 && length as usize <= n - done
 }
 
 // A run sought in some lengths: which of them it is, or how many numbers stand in their runs if it is none of them.
@@ -254,16 +214,9 @@ pub fn spread(work: &mut [u32], from: Place, n: usize, goal: usize, k: usize) ->
 {
     let first = from.number;
     let mut done = 0;
-    let mut j = 0;
-    while done < goal {
-        if j == k {
-            return Laid {
-                runs: j,
-                numbers: done,
-            };
-        }
+    for j in 0..k {
         let length = work[first + 2 * n + j];
-        if !run_fits(n, done, length) {
+        if goal <= done || !run_fits(n, done, length) {
             return Laid {
                 runs: j,
                 numbers: done,
@@ -271,14 +224,11 @@ pub fn spread(work: &mut [u32], from: Place, n: usize, goal: usize, k: usize) ->
         }
         let v = work[first + n + j];
         let next = done + length as usize;
-        let to = first + done;
-        let more = next.min(goal) - done;
-        fill(work, Place { number: to }, more, v);
+        work[first + done..first + next.min(goal)].fill(v);
         done = next;
-        j += 1;
     }
     Laid {
-        runs: j,
+        runs: k,
         numbers: done,
     }
 }

@@ -1,7 +1,6 @@
 -- `differs_in` asks each number and the one before it. Assumes nothing.
 use mathlib.Core.Bool.{not}
 use Rattle.std.proofs.Common.{rules}
-use Rattle.std.proofs.lemmas.Fn.{always_returns_same}
 use borrow.Author.Tests.{tests}
 use lib.Dec.{eqb}
 use Rattle.meaning.specs.Lists.{differ}
@@ -10,6 +9,4 @@ use Rattle.stages.proofs.differs_in.Goals as goal
 
 pub returns : goal.returns
 unfolding differ
-returns c =
-    adjacent-is (λ x y. not (eqb x y)) c.args.list.now c.is_sorted_by.result
-    (c.is_sorted_by.ensures.cases (λ x y. not (eqb x y)) (always_returns_same _ _ _ (λ a r f k. search (rules, tests))))
+returns c = adjacent-is (λ x y. not (eqb x y)) c.args.list.now _ _ _ c.is_sorted_by.ensures.cases (λ a r f k. search (rules, tests))

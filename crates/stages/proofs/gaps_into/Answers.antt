@@ -1,13 +1,9 @@
 -- `gaps_into`: as `less_into`; the state is the number before. Assumes nothing.
-use native.Mathlib.Omega.{arith}
-use Rattle.stages.proofs.Scans.{gaps-scan, scanning-start, behind-turn, scanning-end}
+use Rattle.stages.proofs.Scans.{gaps-scan, behind-turn, scanning-end}
 use Rattle.stages.proofs.gaps_into.Goals as goal
 
-pub loop-i-init : goal.loop-i-init
-loop-i-init c = scanning-start gaps-scan (omega (arith, c.requires))
-
 pub loop-i-preserved : goal.loop-i-preserved
-loop-i-preserved c = behind-turn gaps-scan c.loop-i.invariant c.loop-i-test.true c.less-y.ensures
+loop-i-preserved c = behind-turn gaps-scan c.loop-i.invariant c.loop-i-test.true c.saturating_sub.ensures
 
 pub returns : goal.returns
 returns c = scanning-end gaps-scan c.loop-i.invariant c.loop-i-test.false

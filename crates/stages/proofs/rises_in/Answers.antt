@@ -1,6 +1,5 @@
 -- `rises_in` asks each number and the one before it. Assumes nothing.
 use Rattle.std.proofs.Common.{rules}
-use Rattle.std.proofs.lemmas.Fn.{always_returns_same}
 use borrow.Author.Tests.{tests}
 use lib.Dec.{leb}
 use Rattle.meaning.specs.Lists.{rises}
@@ -9,4 +8,4 @@ use Rattle.stages.proofs.rises_in.Goals as goal
 
 pub returns : goal.returns
 unfolding rises
-returns c = adjacent-is leb c.args.list.now c.is_sorted_by.result (c.is_sorted_by.ensures.cases leb (always_returns_same _ _ _ (λ a r f k. search (rules, tests))))
+returns c = adjacent-is leb c.args.list.now _ _ _ c.is_sorted_by.ensures.cases (λ a r f k. search (rules, tests))
