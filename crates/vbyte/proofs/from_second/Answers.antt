@@ -1,30 +1,28 @@
 -- `vbyte::from_second` meets its contract: each byte that another follows leaves a shorter number to read. Assumes nothing.
-use Prim.Native.Nat.{◌^◌}
-use mathlib.Core.Path.{refl, ◌∙◌}
-use native.Mathlib.Omega.{arith}
-use Rattle.vbyte.proofs.Steps.{later-none, later_last, later_more}
+use Rattle.std.proofs.Common.{arith, ◌∙◌}
+use Rattle.vbyte.proofs.Steps.{got, none_got, later-start, later-cut, later-ends, later-goes, fifth-big, fifth-ends}
 use Rattle.vbyte.proofs.from_second.Goals as goal
 
-pub returns-then-end-here : goal.returns-then-end-here
-returns-then-end-here c = later-none _ _ 3 (2 ^ 7) _ c.if-end-here.true
+pub loop-scale-init : goal.loop-scale-init
+loop-scale-init c = later-start c.requires
 
-pub returns-then-second-lt128 : goal.returns-then-second-lt128
-returns-then-second-lt128 c =
-    c.last.ensures ∙ later_last _ _ c.if-end-here.false c.from-second.ensures refl 2 (2 ^ 7) _ c.if-second-lt128.true
+pub returns-in_default : goal.returns-in_default
+returns-in_default c = later-cut c.loop-scale.invariant (none_got _ _ c.in_default.ensures.lookup.0)
 
-pub returns-then-end-here-2 : goal.returns-then-end-here-2
-returns-then-end-here-2 c =
-    later-none _ _ 2 (2 ^ 14) _ c.if-end-here-2.true
-    ∙ later_more _ _ c.if-end-here.false c.from-second.ensures refl 2 (2 ^ 7) _ c.if-second-lt128.false
+pub returns-then-later-lt128 : goal.returns-then-later-lt128
+returns-then-later-lt128 c =
+    c.last.ensures ∙ later-ends c.loop-scale.invariant c.loop-scale-test.true (got c.in-Some.ensures.lookup.3 c.from-later.ensures) c.if-later-lt128.true
 
-pub returns-then-third-lt128 : goal.returns-then-third-lt128
-returns-then-third-lt128 c =
-    c.last-then-third-lt128.ensures
-    ∙ later_last _ _ c.if-end-here-2.false c.from-third.ensures (omega arith) 1 (2 ^ 14) _ c.if-third-lt128.true
-    ∙ later_more _ _ c.if-end-here.false c.from-second.ensures refl 2 (2 ^ 7) _ c.if-second-lt128.false
+pub loop-scale-preserved : goal.loop-scale-preserved
+loop-scale-preserved c =
+    later-goes c.loop-scale.invariant c.loop-scale-test.true (got c.in-Some.ensures.lookup.3 c.from-later.ensures) c.if-later-lt128.false (c.type_inv.body _).fits
+
+pub returns-in_default-get : goal.returns-in_default-get
+returns-in_default-get c = later-cut c.loop-scale.invariant (none_got _ _ c.in_default-get.ensures.lookup.0)
+
+pub returns-then-fifth-gt15 : goal.returns-then-fifth-gt15
+returns-then-fifth-gt15 c = fifth-big c.loop-scale.invariant (omega arith) (got c.in-Some-get.ensures.lookup.3 c.from-fifth.ensures) c.if-fifth-gt15.true
 
 pub returns : goal.returns
 returns c =
-    c.from_fourth.ensures
-    ∙ later_more _ _ c.if-end-here-2.false c.from-third.ensures (omega arith) 1 (2 ^ 14) _ c.if-third-lt128.false
-    ∙ later_more _ _ c.if-end-here.false c.from-second.ensures refl 2 (2 ^ 7) _ c.if-second-lt128.false
+    c.last-2.ensures ∙ fifth-ends c.loop-scale.invariant (omega arith) (got c.in-Some-get.ensures.lookup.3 c.from-fifth.ensures) c.if-fifth-gt15.false
