@@ -1,5 +1,5 @@
 -- Reading one number byte by byte, on plain values: what each test of `number_at`, `from_second` and `from_fourth` says of the definitions. Assumes nothing.
-use Prim.Native.Nat.{ℕ, zero, suc, ◌+◌, ◌-◌, ◌*◌, ◌^◌, ◌≤◌, ◌<◌}
+use Prim.Native.Nat.{ℕ, zero, suc, ◌+◌, ◌-◌, ◌*◌, ◌%◌, ◌^◌, ◌≤◌, ◌<◌}
 use mathlib.Core.Bool.{false}
 use mathlib.Core.Path.{◌≡◌, refl, sym, ap, ap₂, ◌∙◌}
 use mathlib.Core.Bool.{not}
@@ -120,20 +120,19 @@ scale-is (suc zero) h = refl
 scale-is (suc (suc zero)) h = refl
 scale-is (suc (suc (suc i))) h = absurd (omega arith)
 
-scale-room : (i low b : ℕ) → i < 3 → low < 128 ^ (i + 1) → b < 128
-    → (low + get_or scales i 0 * b < 128 ^ (i + 1 + 1)) × (low + get_or scales i 0 * b < 2 ^ 28)
-scale-room zero low b h l k = (omega arith, omega arith)
-scale-room (suc zero) low b h l k = (omega arith, omega arith)
-scale-room (suc (suc zero)) low b h l k = (omega arith, omega arith)
-scale-room (suc (suc (suc i))) low b h l k = absurd (omega arith)
+scale-room : (i low b : ℕ) → i < 3 → low < 128 ^ (i + 1) → (low + get_or scales i 0 * (b % 128) < 128 ^ (i + 1 + 1)) × (low + get_or scales i 0 * (b % 128) < 2 ^ 28)
+scale-room zero low b h l = (omega arith, omega arith)
+scale-room (suc zero) low b h l = (omega arith, omega arith)
+scale-room (suc (suc zero)) low b h l = (omega arith, omega arith)
+scale-room (suc (suc (suc i))) low b h l = absurd (omega arith)
 
 module _ {body : List ℕ} {at₀ low₀ low here i : ℕ} (so : LaterSo body at₀ low₀ low here i) where
   pub later-cut : length body ≤ here → refused cut_short ≡ later_at 3 128 low₀ body at₀
   later-cut h = later-none body here (3 - i) (128 ^ (i + 1)) low h ∙ so.is
 
   module _ (h : i < 3) where
-    pub later-room : {b : ℕ} → b < 128 → low + get_or scales i 0 * b < 2 ^ 28
-    later-room l = (scale-room i low _ h so.small l).1
+    pub later-room : (b : ℕ) → low + get_or scales i 0 * (b % 128) < 2 ^ 28
+    later-room b = (scale-room i low b h so.small).1
 
     module _ {b : ℕ} (there : Byte body here b) where
       more : 3 - i ≡ suc (2 - i)
@@ -145,14 +144,17 @@ module _ {body : List ℕ} {at₀ low₀ low here i : ℕ} (so : LaterSo body at
       next : 128 ^ (i + 1 + 1) ≡ 128 ^ (i + 1) * 128
       next = rw add-one (pow-suc 128 (i + 1))
 
-      pub later-ends : b < 128 → need (not (eqb b 0)) broken (given (low + get_or scales i 0 * b, here + 1)) ≡ later_at 3 128 low₀ body at₀
-      later-ends l = rw scale-is (later_last body here there refl (2 - i) (128 ^ (i + 1)) low l) ∙ rw more at so.is
+      pub later-ends : b < 128 → need (not (eqb b 0)) broken (given (low + get_or scales i 0 * (b % 128), here + 1)) ≡ later_at 3 128 low₀ body at₀
+      later-ends l =
+          let low7 : b % 128 ≡ b = omega arith in
+          rw (scale-is i h, low7) (later_last body here there refl (2 - i) (128 ^ (i + 1)) low l) ∙ rw more at so.is
 
-      pub later-goes : 128 ≤ b → get_or body here 0 < 256 → LaterSo body at₀ low₀ (low + get_or scales i 0 * (b - 128)) (here + 1) (i + 1)
+      pub later-goes : 128 ≤ b → get_or body here 0 < 256 → LaterSo body at₀ low₀ (low + get_or scales i 0 * (b % 128)) (here + 1) (i + 1)
       later-goes l small =
+          let low7 : b % 128 ≡ b - 128 = omega (arith, there.is) in
           record {
-            small = (scale-room i low (b - 128) h so.small (omega (arith, there.is))).0;
-            is = rw (scale-is i h, left, next) (later_more body here there refl (2 - i) (128 ^ (i + 1)) low l ∙ rw more at so.is);
+            small = (scale-room i low b h so.small).0;
+            is = rw (scale-is i h, low7, left, next) (later_more body here there refl (2 - i) (128 ^ (i + 1)) low l ∙ rw more at so.is);
           }
 
 -- the fifth byte

@@ -20,20 +20,24 @@ struct Number {
     next: Offset,
 }
 
-// Puts one number, and answers the offset after it.
+// Puts one number, and answers the offset after it. At most four of its bytes are followed by others.
 fn put_number(out: &mut [u8], at: Offset, x: u32) -> Offset
     requires { at.byte + 5 < 2 ^ 63 }
     ensures { Wrote (vbyte x) at.byte out.old out.new result }
 {
+    let start = at.byte;
     let mut rest = x;
-    let mut to = at.byte;
-    while 128 <= rest {
-        put(out, Offset { byte: to }, (rest % 128 + 128) as u8);
+    for i in 0..4usize {
+        let to = Offset { byte: start + i };
+        if rest < 128 {
+            put(out, to, rest as u8);
+            return Offset { byte: to.byte + 1 };
+        }
+        put(out, to, (rest % 128 + 128) as u8);
         rest = rest / 128;
-        to += 1;
     }
-    put(out, Offset { byte: to }, rest as u8);
-    Offset { byte: to + 1 }
+    put(out, Offset { byte: start + 4 }, rest as u8);
+    Offset { byte: start + 5 }
 }
 
 // Writes a list to an output, from an offset on, and answers the offset after it.
@@ -70,11 +74,11 @@ fn from_second(body: &[u8], at: Offset, first: u32) -> Result<Number, Refusal>
             return Err(Refusal::CutShort);
         };
         let later = u32::from(b);
+        low += scale * (later % 128);
         here += 1;
         if later < 128 {
-            return last(later, low + scale * later, Offset { byte: here });
+            return last(later, low, Offset { byte: here });
         }
-        low += scale * (later - 128);
     }
     let Some(&b) = body.get(here) else {
         return Err(Refusal::CutShort);

@@ -2,8 +2,5 @@
 use Rattle.vbyte.proofs.Puts.{PutSo}
 use Rattle.vbyte.proofs.put_number.Given as goal
 
-abbrev pub invariant-loop-rest : goal.invariant-loop-rest
-invariant-loop-rest l = PutSo l.x l.initial.to l.initial.out l.out l.rest l.to
-
-abbrev pub decreases-loop-rest : goal.decreases-loop-rest
-decreases-loop-rest l = l.rest
+abbrev pub invariant-loop-i : goal.invariant-loop-i
+invariant-loop-i l = PutSo l.x l.start l.initial.out l.out l.rest l.i
