@@ -1,17 +1,17 @@
 -- Reading one number byte by byte, on plain values: what each test of `number_at`, `from_second` and `from_fourth` says of the definitions. Assumes nothing.
-use Prim.Native.Nat.{ℕ, zero, suc, ◌+◌, ◌-◌, ◌*◌, ◌%◌, ◌^◌, ◌≤◌, ◌<◌}
-use mathlib.Core.Bool.{false}
+use Prim.Native.Nat.{ℕ, suc, ◌+◌, ◌-◌, ◌*◌, ◌≤◌, ◌<◌}
 use mathlib.Core.Path.{◌≡◌, refl, sym, ap, ap₂, ◌∙◌}
 use mathlib.Core.Bool.{not}
 use mathlib.Core.List.{List, [], ◌∷◌}
-use native.Mathlib.Nat.{add_assoc, mul-add, mul_assoc, pow-suc}
+use native.Mathlib.Nat.{add_assoc, mul-add, mul_assoc}
 use native.Mathlib.Numerals.{add-one}
 use native.Mathlib.Omega.{arith}
 use Rattle.std.specs.Prelude.{Result, Ok, Err}
-use lib.Dec.{ltb, eqb}
-use lib.ListN.{length, get_or, drop, drop_of_length-le, replicate}
+use Rattle.std.specs.Result.{IsErrAnd}
+use lib.Dec.{eqb}
+use lib.ListN.{drop, drop_of_length-le, replicate}
 use lib.Seq.{drop-cons}
-use borrow.Author.Tests.{ltb-false, lt-ltb, le-ltb, le-leb, lt-leb}
+use borrow.Author.Tests.{lt-ltb, le-ltb, le-leb, lt-leb}
 use Rattle.meaning.specs.Answer.{Answer, given, refused, bind, need}
 use Rattle.meaning.specs.Limits.{cut_short, broken}
 use Rattle.meaning.specs.Places.{UnitIs}
@@ -22,7 +22,7 @@ use Rattle.meaning.specs.declared.Position.{Position}
 use Rattle.meaning.specs.declared.Refusal.{Refusal}
 use Rattle.meaning.specs.declared.UnitRead.{UnitRead}
 use Rattle.meaning.proofs.Tests.{by-test}
-use Rattle.vbyte.specs.Numbers.{number_told, number_at, later_at}
+use Rattle.vbyte.specs.Numbers.{number_told, number_at, later_at, Byte, Cut}
 use Rattle.vbyte.specs.declared.Number.{Number}
 
 -- a byte before a number and its size, and a number and its size seen from an offset
@@ -51,25 +51,20 @@ last-seen : (b scale low at : ℕ)
     → need (not (eqb b 0)) broken (seen scale low at (b, 1)) ≡ bind (need {A = ℕ × ℕ} (not (eqb b 0)) broken (given (b, 1))) (seen scale low at)
 last-seen b scale low at = by-test (not (eqb b 0)) (λ e. rw e) (λ e. rw e)
 
--- a byte that stands at an offset, and what `get` says of it
-pub record Byte (s : List ℕ) (at b : ℕ) : Type 0 where
-  pub inside : at < length s
-  pub is : b ≡ get_or s at 0
-
-pub got : {s : List ℕ} {at x b : ℕ} → (at < length s) × ((d : ℕ) → x ≡ get_or s at d) → b ≡ x → Byte s at b
-got found is = record { inside = found.0; is = is ∙ found.1 0 }
-
-pub none_got : (s : List ℕ) (at : ℕ) → false ≡ ltb at (length s) → length s ≤ at
-none_got s at t = ltb-false _ _ (sym t)
-
 module _ (s : List ℕ) (at : ℕ) where
-  pub number-none : length s ≤ at → refused cut_short ≡ number_at s at
-  unfolding number_at vbyte_in
-  number-none h = rw (drop_of_length-le s {i = at} h)
+  -- the body ends before a byte, and a `?` hands that refusal on
+  cut-told : (r : Result Number Refusal) {e : Refusal} → Cut s at e → IsErrAnd r (λ z. z ≡ e) → says_by number_told r ≡ refused cut_short
+  cut-told (Ok t) cut h = absurd h
+  cut-told (Err z) cut h = rw (h, cut.told)
 
-  pub later-none : (k scale low : ℕ) → length s ≤ at → refused cut_short ≡ later_at k scale low s at
+  pub number-none : (r : Result Number Refusal) {e : Refusal} → Cut s at e → IsErrAnd r (λ z. z ≡ e) → says_by number_told r ≡ number_at s at
+  unfolding number_at vbyte_in
+  number-none r cut h = cut-told r cut h ∙ rw (drop_of_length-le s {i = at} cut.past)
+
+  pub later-none : (k scale low : ℕ) (r : Result Number Refusal) {e : Refusal} → Cut s at e → IsErrAnd r (λ z. z ≡ e)
+      → says_by number_told r ≡ later_at k scale low s at
   unfolding later_at later_in
-  later-none k scale low h = rw (drop_of_length-le s {i = at} h)
+  later-none k scale low r cut h = cut-told r cut h ∙ rw (drop_of_length-le s {i = at} cut.past)
 
   -- the byte b stands at the offset
   module _ {b : ℕ} (there : Byte s at b) {next : ℕ} (after : next ≡ at + 1) where
@@ -102,68 +97,23 @@ module _ (s : List ℕ) (at : ℕ) where
       unfolding later_at later_in
       later-fifth h = rw (byte_at, le-leb b 15 h) (rw after (last-seen b scale low at))
 
--- ---- the loop over the second to the fourth byte: where the byte at `here` comes, and counts 128 ^ (i + 1) times, what is to be said is said from there on
-pub record LaterSo (body : List ℕ) (at₀ low₀ low here i : ℕ) : Type 0 where
-  pub small : low < 128 ^ (i + 1)
-  pub is : later_at (3 - i) (128 ^ (i + 1)) low body here ≡ later_at 3 128 low₀ body at₀
+-- ---- the second byte, the third and the fourth, where more follow each
+module _ (s : List ℕ) (at low : ℕ) {b : ℕ} (second : Byte s at b) (h : 128 ≤ b) where
+  abbrev low14 : ℕ
+  low14 = low + 128 * (b - 128)
 
-pub later-start : {body : List ℕ} {at low : ℕ} → low < 128 → LaterSo body at low low at 0
-later-start h = record { small = h; is = refl }
+  pub past_second : later_at 2 16384 low14 s (at + 1) ≡ later_at 3 128 low s at
+  past_second = later_more s at second refl 2 128 low h
 
-abbrev scales : List ℕ
-scales = 128 ∷ 16384 ∷ 2097152 ∷ []
+  module _ {c : ℕ} (third : Byte s (at + 1) c) (k : 128 ≤ c) where
+    abbrev low21 : ℕ
+    low21 = low14 + 16384 * (c - 128)
 
--- the scales, and room for what one more byte adds
-scale-is : (i : ℕ) → i < 3 → get_or scales i 0 ≡ 128 ^ (i + 1)
-scale-is zero h = refl
-scale-is (suc zero) h = refl
-scale-is (suc (suc zero)) h = refl
-scale-is (suc (suc (suc i))) h = absurd (omega arith)
+    pub past_third : later_at 1 2097152 low21 s (at + 2) ≡ later_at 3 128 low s at
+    past_third = later_more s (at + 1) third (omega arith) 1 16384 low14 k ∙ past_second
 
-scale-room : (i low b : ℕ) → i < 3 → low < 128 ^ (i + 1) → (low + get_or scales i 0 * (b % 128) < 128 ^ (i + 1 + 1)) × (low + get_or scales i 0 * (b % 128) < 2 ^ 28)
-scale-room zero low b h l = (omega arith, omega arith)
-scale-room (suc zero) low b h l = (omega arith, omega arith)
-scale-room (suc (suc zero)) low b h l = (omega arith, omega arith)
-scale-room (suc (suc (suc i))) low b h l = absurd (omega arith)
-
-module _ {body : List ℕ} {at₀ low₀ low here i : ℕ} (so : LaterSo body at₀ low₀ low here i) where
-  pub later-cut : length body ≤ here → refused cut_short ≡ later_at 3 128 low₀ body at₀
-  later-cut h = later-none body here (3 - i) (128 ^ (i + 1)) low h ∙ so.is
-
-  module _ (h : i < 3) where
-    pub later-room : (b : ℕ) → low + get_or scales i 0 * (b % 128) < 2 ^ 28
-    later-room b = (scale-room i low b h so.small).1
-
-    module _ {b : ℕ} (there : Byte body here b) where
-      more : 3 - i ≡ suc (2 - i)
-      more = omega arith
-
-      left : 3 - (i + 1) ≡ 2 - i
-      left = omega arith
-
-      next : 128 ^ (i + 1 + 1) ≡ 128 ^ (i + 1) * 128
-      next = rw add-one (pow-suc 128 (i + 1))
-
-      pub later-ends : b < 128 → need (not (eqb b 0)) broken (given (low + get_or scales i 0 * (b % 128), here + 1)) ≡ later_at 3 128 low₀ body at₀
-      later-ends l =
-          let low7 : b % 128 ≡ b = omega arith in
-          rw (scale-is i h, low7) (later_last body here there refl (2 - i) (128 ^ (i + 1)) low l) ∙ rw more at so.is
-
-      pub later-goes : 128 ≤ b → get_or body here 0 < 256 → LaterSo body at₀ low₀ (low + get_or scales i 0 * (b % 128)) (here + 1) (i + 1)
-      later-goes l small =
-          let low7 : b % 128 ≡ b - 128 = omega (arith, there.is) in
-          record {
-            small = (scale-room i low b h so.small).0;
-            is = rw (scale-is i h, low7, left, next) (later_more body here there refl (2 - i) (128 ^ (i + 1)) low l ∙ rw more at so.is);
-          }
-
--- the fifth byte
-module _ {body : List ℕ} {at₀ low₀ low here i : ℕ} (so : LaterSo body at₀ low₀ low here i) (e : i ≡ 3) {b : ℕ} (there : Byte body here b) where
-  pub fifth-big : 15 < b → refused broken ≡ later_at 3 128 low₀ body at₀
-  fifth-big h = later-big body here there refl (128 ^ 4) low h ∙ rw e at so.is
-
-  pub fifth-ends : b ≤ 15 → need (not (eqb b 0)) broken (given (low + 268435456 * b, here + 1)) ≡ later_at 3 128 low₀ body at₀
-  fifth-ends h = later-fifth body here there refl (128 ^ 4) low h ∙ rw e at so.is
+    pub past_fourth : {d : ℕ} → Byte s (at + 2) d → 128 ≤ d → later_at 0 268435456 (low21 + 2097152 * (d - 128)) s (at + 3) ≡ later_at 3 128 low s at
+    past_fourth fourth l = later_more s (at + 2) fourth (omega arith) 0 2097152 low21 l ∙ past_third
 
 -- ---- what an answer of `number_at` says of the unit
 abbrev one_unit : ℕ × ℕ → Answer (Position × List ℕ)

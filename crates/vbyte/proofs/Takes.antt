@@ -94,7 +94,7 @@ module _ {body : List ℕ} {left : ℕ} {p : Position} {w₀ : List ℕ} {from :
         let x = get_or body (at + k) 0 in
         let inside : at + k < length body = omega (arith, ones.there) in
         let low : x < 128 = rw (get_or-take n (drop at body) k 0 l, get_or-drop at body k 0) at (ones.low k) in
-        let read = number-one body (at + k) (record { inside = inside; is = refl }) refl low in
+        let read = number-one body (at + k) (record { inside = inside; is = refl; small = omega arith }) refl low in
         let stored : set (sets w₀ from (part body at k)) (from + k) x ≡ sets w₀ from (part body at (k + 1)) =
         rw (part-snoc body at k inside) (rw (part-long body at k (omega (arith, ones.there))) at (sets-snoc (part body at k) x w₀ from)) in
         let next : at + k + 1 ≡ at + suc k = omega arith in

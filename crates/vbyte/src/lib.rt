@@ -1,14 +1,14 @@
 // Code 1, VByte: 7 bits a byte, lowest first, top bit 1 when more follows.
 #![tactic(auto)]
 
-ghost use Rattle.std.specs.Prelude.{not, ◌≡◌, ◌+◌, ◌^◌, ◌≤◌, ◌<◌, eqb, cond, length};
+ghost use Rattle.std.specs.Prelude.{not, ◌≡◌, ◌+◌, ◌^◌, ◌≤◌, ◌<◌, eqb, cond, length, MatchResult};
 ghost use Rattle.meaning.specs.Answer.{given, need};
 ghost use Rattle.meaning.specs.Codes.{code_vbyte};
 ghost use Rattle.meaning.specs.Limits.{most_bytes, broken};
 ghost use Rattle.meaning.specs.Places.{Source, Target, Wrote, Took, UnitIs};
 ghost use Rattle.meaning.specs.Says.{says_by};
 ghost use Rattle.meaning.specs.VByte.{sevens, vbyte};
-ghost use Rattle.vbyte.specs.Numbers.{number_told, number_at, later_at, Ones};
+ghost use Rattle.vbyte.specs.Numbers.{number_told, number_at, later_at, Ones, Byte, Cut};
 
 use leaves::{from_byte, put, taken};
 use meaning::{Offset, Place, Position, Refusal, Taken, UnitRead};
@@ -62,42 +62,53 @@ fn last(b: u32, x: u32, next: Offset) -> Result<Number, Refusal>
     Ok(Number { value: x, next })
 }
 
+// The byte at an offset, which has to be there.
+fn byte_at(body: &[u8], at: Offset) -> Result<u32, Refusal>
+    ensures { MatchResult result (λ b. Byte body.now at.byte b) (λ e. Cut body.now at.byte e) }
+{
+    let Some(&b) = body.get(at.byte) else {
+        return Err(Refusal::CutShort);
+    };
+    Ok(u32::from(b))
+}
+
 // The number whose first byte makes `first` and whose second stands at an offset.
+// kept: four bytes in a row, since a loop over them costs each number 2 to 4 instructions, and a far lookup under differences its goal.
 fn from_second(body: &[u8], at: Offset, first: u32) -> Result<Number, Refusal>
     requires { first < 2 ^ 7 }
     ensures { says_by number_told result ≡ later_at 3 (2 ^ 7) first body.now at.byte }
 {
-    let mut low = first;
-    let mut here = at.byte;
-    for scale in [128u32, 16384, 2097152] {
-        let Some(&b) = body.get(here) else {
-            return Err(Refusal::CutShort);
-        };
-        let later = u32::from(b);
-        low += scale * (later % 128);
-        here += 1;
-        if later < 128 {
-            return last(later, low, Offset { byte: here });
-        }
+    let here = at.byte;
+    let second = byte_at(body, at)?;
+    let next = Offset { byte: here + 1 };
+    if second < 128 {
+        return last(second, first + 128 * second, next);
     }
-    let Some(&b) = body.get(here) else {
-        return Err(Refusal::CutShort);
-    };
-    let fifth = u32::from(b);
+    let low14 = first + 128 * (second - 128);
+    let third = byte_at(body, next)?;
+    let next = Offset { byte: here + 2 };
+    if third < 128 {
+        return last(third, low14 + 16384 * third, next);
+    }
+    let low21 = low14 + 16384 * (third - 128);
+    let fourth = byte_at(body, next)?;
+    let next = Offset { byte: here + 3 };
+    if fourth < 128 {
+        return last(fourth, low21 + 2097152 * fourth, next);
+    }
+    let low28 = low21 + 2097152 * (fourth - 128);
+    let fifth = byte_at(body, next)?;
     if 15 < fifth {
         return Err(Refusal::Broken);
     }
-    last(fifth, low + 268435456 * fifth, Offset { byte: here + 1 })
+    last(fifth, low28 + 268435456 * fifth, Offset { byte: here + 4 })
 }
 
 // The number at an offset; most take one byte.
 fn number_at(body: &[u8], at: Offset) -> Result<Number, Refusal>
     ensures { says_by number_told result ≡ number_at body.now at.byte }
 {
-    let Some(&b) = body.get(at.byte) else {
-        return Err(Refusal::CutShort);
-    };
-    let first = u32::from(b);
+    let first = byte_at(body, at)?;
     let next = Offset { byte: at.byte + 1 };
     if first < 128 {
         return Ok(Number { value: first, next });

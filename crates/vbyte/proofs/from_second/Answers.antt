@@ -1,28 +1,51 @@
 -- `vbyte::from_second` meets its contract: each byte that another follows leaves a shorter number to read. Assumes nothing.
-use Rattle.std.proofs.Common.{arith, ◌∙◌}
-use Rattle.vbyte.proofs.Steps.{got, none_got, later-start, later-cut, later-ends, later-goes, fifth-big, fifth-ends}
+use Rattle.std.proofs.Common.{◌^◌, refl, arith, ◌∙◌}
+use Rattle.vbyte.proofs.Steps.{later-none, later_last, later-big, later-fifth, past_second, past_third, past_fourth}
 use Rattle.vbyte.proofs.from_second.Goals as goal
 
-pub loop-scale-init : goal.loop-scale-init
-loop-scale-init c = later-start c.requires
+pub returns-in_err-second : goal.returns-in_err-second
+returns-in_err-second c = later-none _ _ 3 (2 ^ 7) _ _ c.in_err-second.ensures c.from_residual.ensures.1
 
-pub returns-in_default : goal.returns-in_default
-returns-in_default c = later-cut c.loop-scale.invariant (none_got _ _ c.in_default.ensures.lookup.0)
+pub returns-then-second-lt128 : goal.returns-then-second-lt128
+returns-then-second-lt128 c = c.last.ensures ∙ later_last _ _ c.in_ok-second.ensures refl 2 (2 ^ 7) _ c.if-second-lt128.true
 
-pub returns-then-later-lt128 : goal.returns-then-later-lt128
-returns-then-later-lt128 c =
-    c.last.ensures ∙ later-ends c.loop-scale.invariant c.loop-scale-test.true (got c.in-Some.ensures.lookup.3 c.from-later.ensures) c.if-later-lt128.true
+pub returns-in_err-third : goal.returns-in_err-third
+returns-in_err-third c =
+    later-none _ _ 2 (2 ^ 14) _ _ c.in_err-third.ensures c.from_residual-in_err-third.ensures.1
+    ∙ past_second _ _ _ c.in_ok-second.ensures c.if-second-lt128.false
 
-pub loop-scale-preserved : goal.loop-scale-preserved
-loop-scale-preserved c =
-    later-goes c.loop-scale.invariant c.loop-scale-test.true (got c.in-Some.ensures.lookup.3 c.from-later.ensures) c.if-later-lt128.false (c.type_inv.body _).fits
+pub returns-then-third-lt128 : goal.returns-then-third-lt128
+returns-then-third-lt128 c =
+    c.last-then-third-lt128.ensures
+    ∙ later_last _ _ c.in_ok-third.ensures (omega arith) 1 (2 ^ 14) _ c.if-third-lt128.true
+    ∙ past_second _ _ _ c.in_ok-second.ensures c.if-second-lt128.false
 
-pub returns-in_default-get : goal.returns-in_default-get
-returns-in_default-get c = later-cut c.loop-scale.invariant (none_got _ _ c.in_default-get.ensures.lookup.0)
+pub returns-in_err-fourth : goal.returns-in_err-fourth
+returns-in_err-fourth c =
+    later-none _ _ 1 (2 ^ 21) _ _ c.in_err-fourth.ensures c.from_residual-in_err-fourth.ensures.1
+    ∙ past_third _ _ _ c.in_ok-second.ensures c.if-second-lt128.false c.in_ok-third.ensures c.if-third-lt128.false
+
+pub returns-then-fourth-lt128 : goal.returns-then-fourth-lt128
+returns-then-fourth-lt128 c =
+    c.last-then-fourth-lt128.ensures
+    ∙ later_last _ _ c.in_ok-fourth.ensures (omega arith) 0 (2 ^ 21) _ c.if-fourth-lt128.true
+    ∙ past_third _ _ _ c.in_ok-second.ensures c.if-second-lt128.false c.in_ok-third.ensures c.if-third-lt128.false
+
+pub returns-in_err-fifth : goal.returns-in_err-fifth
+returns-in_err-fifth c =
+    later-none _ _ 0 (2 ^ 28) _ _ c.in_err-fifth.ensures c.from_residual-in_err-fifth.ensures.1
+    ∙ past_fourth _ _ _ c.in_ok-second.ensures c.if-second-lt128.false c.in_ok-third.ensures c.if-third-lt128.false c.in_ok-fourth.ensures
+    c.if-fourth-lt128.false
 
 pub returns-then-fifth-gt15 : goal.returns-then-fifth-gt15
-returns-then-fifth-gt15 c = fifth-big c.loop-scale.invariant (omega arith) (got c.in-Some-get.ensures.lookup.3 c.from-fifth.ensures) c.if-fifth-gt15.true
+returns-then-fifth-gt15 c =
+    later-big _ _ c.in_ok-fifth.ensures refl (2 ^ 28) _ c.if-fifth-gt15.true
+    ∙ past_fourth _ _ _ c.in_ok-second.ensures c.if-second-lt128.false c.in_ok-third.ensures c.if-third-lt128.false c.in_ok-fourth.ensures
+    c.if-fourth-lt128.false
 
 pub returns : goal.returns
 returns c =
-    c.last-2.ensures ∙ fifth-ends c.loop-scale.invariant (omega arith) (got c.in-Some-get.ensures.lookup.3 c.from-fifth.ensures) c.if-fifth-gt15.false
+    c.last-2.ensures
+    ∙ later-fifth _ _ c.in_ok-fifth.ensures (omega arith) (2 ^ 28) _ c.if-fifth-gt15.false
+    ∙ past_fourth _ _ _ c.in_ok-second.ensures c.if-second-lt128.false c.in_ok-third.ensures c.if-third-lt128.false c.in_ok-fourth.ensures
+    c.if-fourth-lt128.false
