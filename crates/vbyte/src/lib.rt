@@ -161,6 +161,7 @@ fn take_ones(body: &[u8], at: Offset, work: &mut [u32], from: Place, most: usize
     let first = from.number;
     let limit = most.min(body.len().saturating_sub(start));
     let mut n: usize = 0;
+    // Four a turn, which no `for` says of two slices at once.
     while n + 4 <= limit {
         let byte = start + n;
         let number = first + n;

@@ -1,13 +1,8 @@
 -- `vbyte::take` meets its contract: numbers of one byte, and then each turn takes one number. Assumes nothing.
 use mathlib.Core.Path.{◌≡◌, refl}
 use native.Mathlib.Omega.{arith}
-use Rattle.vbyte.proofs.Takes.{ones-long, onward-turn, onward-end}
+use Rattle.vbyte.proofs.Takes.{onward-turn, onward-end}
 use Rattle.vbyte.proofs.take.Goals as goal
-
-pub loop-i-init : goal.loop-i-init
-loop-i-init c =
-    let taken = c.take_ones-ones.ensures in
-    record { many = taken.few; within = omega arith; fits = omega (arith, ones-long taken); long = refl; on = λ w₀ t. t }
 
 pub returns-in_default : goal.returns-in_default
 returns-in_default c = onward-end c.loop-i.invariant c.take_ones-ones.ensures refl (omega arith) c.from_byte.ensures c.taken.ensures
