@@ -7,8 +7,9 @@ use native.Mathlib.Nat.{add_assoc, mul-add, mul_assoc}
 use native.Mathlib.Numerals.{add-one}
 use native.Mathlib.Omega.{arith}
 use Rattle.std.specs.Prelude.{Result, Ok, Err}
+use Rattle.std.specs.Result.{IsErrAnd}
 use lib.Dec.{eqb}
-use lib.ListN.{length, get_or, drop, drop_of_length-le, replicate}
+use lib.ListN.{drop, drop_of_length-le, replicate}
 use lib.Seq.{drop-cons}
 use borrow.Author.Tests.{lt-ltb, le-ltb, le-leb, lt-leb}
 use Rattle.meaning.specs.Answer.{Answer, given, refused, bind, need}
@@ -21,7 +22,7 @@ use Rattle.meaning.specs.declared.Position.{Position}
 use Rattle.meaning.specs.declared.Refusal.{Refusal}
 use Rattle.meaning.specs.declared.UnitRead.{UnitRead}
 use Rattle.meaning.proofs.Tests.{by-test}
-use Rattle.vbyte.specs.Numbers.{number_told, number_at, later_at}
+use Rattle.vbyte.specs.Numbers.{number_told, number_at, later_at, Byte, Cut}
 use Rattle.vbyte.specs.declared.Number.{Number}
 
 -- a byte before a number and its size, and a number and its size seen from an offset
@@ -51,18 +52,24 @@ last-seen : (b scale low at : ℕ)
 last-seen b scale low at = by-test (not (eqb b 0)) (λ e. rw e) (λ e. rw e)
 
 module _ (s : List ℕ) (at : ℕ) where
-  pub number-none : length s ≤ at → refused cut_short ≡ number_at s at
-  unfolding number_at vbyte_in
-  number-none h = rw (drop_of_length-le s {i = at} h)
+  -- the body ends before a byte, and a `?` hands that refusal on
+  cut-told : (r : Result Number Refusal) {e : Refusal} → Cut s at e → IsErrAnd r (λ z. z ≡ e) → says_by number_told r ≡ refused cut_short
+  cut-told (Ok t) cut h = absurd h
+  cut-told (Err z) cut h = rw (h, cut.told)
 
-  pub later-none : (k scale low : ℕ) → length s ≤ at → refused cut_short ≡ later_at k scale low s at
+  pub number-none : (r : Result Number Refusal) {e : Refusal} → Cut s at e → IsErrAnd r (λ z. z ≡ e) → says_by number_told r ≡ number_at s at
+  unfolding number_at vbyte_in
+  number-none r cut h = cut-told r cut h ∙ rw (drop_of_length-le s {i = at} cut.past)
+
+  pub later-none : (k scale low : ℕ) (r : Result Number Refusal) {e : Refusal} → Cut s at e → IsErrAnd r (λ z. z ≡ e)
+      → says_by number_told r ≡ later_at k scale low s at
   unfolding later_at later_in
-  later-none k scale low h = rw (drop_of_length-le s {i = at} h)
+  later-none k scale low r cut h = cut-told r cut h ∙ rw (drop_of_length-le s {i = at} cut.past)
 
   -- the byte b stands at the offset
-  module _ (inside : at < length s) {b : ℕ} (is : b ≡ get_or s at 0) {next : ℕ} (after : next ≡ at + 1) where
-    pub byte_at : drop at s ≡ b ∷ drop next s
-    byte_at = drop-cons s at 0 inside ∙ rw (is, after, add-one at)
+  module _ {b : ℕ} (there : Byte s at b) {next : ℕ} (after : next ≡ at + 1) where
+    byte_at : drop at s ≡ b ∷ drop next s
+    byte_at = drop-cons s at 0 there.inside ∙ rw (there.is, after, add-one at)
 
     pub number-one : b < 128 → given (b, next) ≡ number_at s at
     unfolding number_at vbyte_in
@@ -89,6 +96,24 @@ module _ (s : List ℕ) (at : ℕ) where
       pub later-fifth : b ≤ 15 → need (not (eqb b 0)) broken (given (low + scale * b, next)) ≡ later_at 0 scale low s at
       unfolding later_at later_in
       later-fifth h = rw (byte_at, le-leb b 15 h) (rw after (last-seen b scale low at))
+
+-- ---- the second byte, the third and the fourth, where more follow each
+module _ (s : List ℕ) (at low : ℕ) {b : ℕ} (second : Byte s at b) (h : 128 ≤ b) where
+  abbrev low14 : ℕ
+  low14 = low + 128 * (b - 128)
+
+  pub past_second : later_at 2 16384 low14 s (at + 1) ≡ later_at 3 128 low s at
+  past_second = later_more s at second refl 2 128 low h
+
+  module _ {c : ℕ} (third : Byte s (at + 1) c) (k : 128 ≤ c) where
+    abbrev low21 : ℕ
+    low21 = low14 + 16384 * (c - 128)
+
+    pub past_third : later_at 1 2097152 low21 s (at + 2) ≡ later_at 3 128 low s at
+    past_third = later_more s (at + 1) third (omega arith) 1 16384 low14 k ∙ past_second
+
+    pub past_fourth : {d : ℕ} → Byte s (at + 2) d → 128 ≤ d → later_at 0 268435456 (low21 + 2097152 * (d - 128)) s (at + 3) ≡ later_at 3 128 low s at
+    past_fourth fourth l = later_more s (at + 2) fourth (omega arith) 0 2097152 low21 l ∙ past_third
 
 -- ---- what an answer of `number_at` says of the unit
 abbrev one_unit : ℕ × ℕ → Answer (Position × List ℕ)

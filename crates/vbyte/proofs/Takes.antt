@@ -1,13 +1,13 @@
 -- What the loops of `take_ones` and `take` know: numbers of one byte, and then numbers of any length (`Taking` of `meaning`). Assumes nothing.
 use Prim.Native.Nat.{ℕ, zero, suc, ◌+◌, ◌-◌, ◌≤◌, ◌<◌}
-use mathlib.Core.Path.{◌≡◌, refl, ap, ◌∙◌}
+use mathlib.Core.Path.{◌≡◌, refl, ◌∙◌}
 use mathlib.Core.List.{List, [], ◌∷◌, ◌++◌}
 use native.Mathlib.Nat.{add-zero}
 use native.Mathlib.Numerals.{add-one, towards_suc}
 use native.Mathlib.Omega.{arith}
 use Rattle.std.specs.Prelude.{Result, Ok}
 use lib.ListN.{length, get_or, drop, set, length-drop, length-set}
-use lib.Seq.{sets, length-sets, length-take-le, take-add, drop-drop, get_or-take, get_or-drop}
+use lib.Seq.{sets, length-take-le, take-add, drop-drop, get_or-take, get_or-drop}
 use Rattle.meaning.specs.Codes.{code_vbyte}
 use Rattle.meaning.specs.Places.{part, Took, Ends}
 use Rattle.meaning.specs.Positions.{at_byte}
@@ -26,9 +26,6 @@ use Rattle.vbyte.specs.declared.Number.{Number}
 use Rattle.vbyte.proofs.Steps.{number-one, number-given}
 
 -- ---- numbers of one byte: four at a time
-pub ones_none : (body : List ℕ) (at most from : ℕ) (work : List ℕ) → Ones body at most from work work 0
-ones_none body at most from work = record { few = omega arith; there = omega arith; low = below-nil 128 (omega arith); here = refl }
-
 pub ones-four : (body : List ℕ) (at from : ℕ) (work : List ℕ) {a b c d : ℕ} → at + 4 ≤ length body
     → a ≡ get_or body at 0 → b ≡ get_or body (at + 1) 0 → c ≡ get_or body (at + 2) 0 → d ≡ get_or body (at + 3) 0 → a < 128 → b < 128 → c < 128 → d < 128
     → Ones body at 4 from work (set (set (set (set work from a) (from + 1) b) (from + 2) c) (from + 3) d) 4
@@ -47,9 +44,6 @@ part-long : (s : List ℕ) (at n : ℕ) → n ≤ length s - at → length (part
 part-long s at n h = length-take-le n (drop at s) (simp length-drop h)
 
 module _ {body : List ℕ} {at most from : ℕ} {work work' : List ℕ} {n : ℕ} (ones : Ones body at most from work work' n) where
-  pub ones-long : length work' ≡ length work
-  ones-long = ap length ones.here ∙ length-sets work from (part body at n)
-
   -- some more that take one byte
   pub ones-more : {k m sum : ℕ} {work'' : List ℕ} → n + k ≤ most → Ones body (at + n) k (from + n) work' work'' m → sum ≡ n + m
       → Ones body at most from work work'' sum
@@ -94,7 +88,7 @@ module _ {body : List ℕ} {left : ℕ} {p : Position} {w₀ : List ℕ} {from :
         let x = get_or body (at + k) 0 in
         let inside : at + k < length body = omega (arith, ones.there) in
         let low : x < 128 = rw (get_or-take n (drop at body) k 0 l, get_or-drop at body k 0) at (ones.low k) in
-        let read = number-one body (at + k) inside refl refl low in
+        let read = number-one body (at + k) (record { inside = inside; is = refl; small = omega arith }) refl low in
         let stored : set (sets w₀ from (part body at k)) (from + k) x ≡ sets w₀ from (part body at (k + 1)) =
         rw (part-snoc body at k inside) (rw (part-long body at k (omega (arith, ones.there))) at (sets-snoc (part body at k) x w₀ from)) in
         let next : at + k + 1 ≡ at + suc k = omega arith in

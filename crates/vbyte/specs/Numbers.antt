@@ -1,9 +1,11 @@
 -- One number at an offset of a body: its value and the offset after it, or the refusal.
-use Rattle.std.specs.Prelude.{ℕ, ◌+◌, ◌-◌, ◌*◌, ◌≤◌, ◌≡◌, List, length, drop}
+use Rattle.std.specs.Prelude.{ℕ, ◌+◌, ◌-◌, ◌*◌, ◌<◌, ◌≤◌, ◌≡◌, List, length, get_or, drop}
 use Rattle.std.proofs.lemmas.List.Edits.{sets}
 use Rattle.meaning.specs.Answer.{Answer, given, bind}
 use Rattle.meaning.specs.Places.{Below, part}
 use Rattle.meaning.specs.VByte.{later_in, vbyte_in}
+use Rattle.meaning.specs.declared.Refusal.{Refusal}
+use Rattle.meaning.specs.declared.Refusal.TheVariants as refusal
 use Rattle.vbyte.specs.declared.Number.{Number}
 
 abbrev pub number_told : Number → ℕ × ℕ
@@ -22,3 +24,13 @@ pub record Ones (body : List ℕ) (at most from : ℕ) (work work' : List ℕ) (
   pub there : n ≤ length body - at
   pub low : Below 128 (part body at n)
   pub here : work' ≡ sets work from (part body at n)
+
+-- the byte b stands at an offset, or the body ends before it
+pub record Byte (body : List ℕ) (at b : ℕ) : Type 0 where
+  pub inside : at < length body
+  pub is : b ≡ get_or body at 0
+  pub small : b < 256
+
+pub record Cut (body : List ℕ) (at : ℕ) (e : Refusal) : Type 0 where
+  pub past : length body ≤ at
+  pub told : e ≡ refusal.CutShort

@@ -1,14 +1,14 @@
 // Code 1, VByte: 7 bits a byte, lowest first, top bit 1 when more follows.
 #![tactic(auto)]
 
-ghost use Rattle.std.specs.Prelude.{not, ◌≡◌, ◌+◌, ◌^◌, ◌≤◌, ◌<◌, eqb, length};
+ghost use Rattle.std.specs.Prelude.{not, ◌≡◌, ◌+◌, ◌^◌, ◌≤◌, ◌<◌, eqb, cond, length, MatchResult};
 ghost use Rattle.meaning.specs.Answer.{given, need};
 ghost use Rattle.meaning.specs.Codes.{code_vbyte};
 ghost use Rattle.meaning.specs.Limits.{most_bytes, broken};
 ghost use Rattle.meaning.specs.Places.{Source, Target, Wrote, Took, UnitIs};
 ghost use Rattle.meaning.specs.Says.{says_by};
 ghost use Rattle.meaning.specs.VByte.{sevens, vbyte};
-ghost use Rattle.vbyte.specs.Numbers.{number_told, number_at, later_at, Ones};
+ghost use Rattle.vbyte.specs.Numbers.{number_told, number_at, later_at, Ones, Byte, Cut};
 
 use leaves::{from_byte, put, taken};
 use meaning::{Offset, Place, Position, Refusal, Taken, UnitRead};
@@ -20,49 +20,24 @@ struct Number {
     next: Offset,
 }
 
-// Puts a number's third byte and those after it, given its bits above the lowest 14; answers the offset after them.
-fn put_from_third(out: &mut [u8], at: Offset, above14: u32) -> Offset
-    requires { (above14 < 2 ^ 18) × (at.byte + 3 < 2 ^ 63) }
-    ensures { Wrote (sevens 2 above14) at.byte out.old out.new result }
-{
-    let start = at.byte;
-    let second = Offset { byte: start + 1 };
-    if above14 < 128 {
-        put(out, at, (above14 % 256) as u8);
-        return second;
-    }
-    put(out, at, (above14 % 128 + 128) as u8);
-    let above21 = above14 / 128;
-    let third = Offset { byte: start + 2 };
-    if above21 < 128 {
-        put(out, second, (above21 % 256) as u8);
-        return third;
-    }
-    put(out, second, (above21 % 128 + 128) as u8);
-    put(out, third, (above21 / 128 % 256) as u8);
-    Offset { byte: start + 3 }
-}
-
-// Puts one number, and answers the offset after it.
+// Puts one number, and answers the offset after it. At most four of its bytes are followed by others.
 fn put_number(out: &mut [u8], at: Offset, x: u32) -> Offset
     requires { at.byte + 5 < 2 ^ 63 }
     ensures { Wrote (vbyte x) at.byte out.old out.new result }
 {
     let start = at.byte;
-    let second = Offset { byte: start + 1 };
-    if x < 128 {
-        put(out, at, (x % 256) as u8);
-        return second;
+    let mut rest = x;
+    for i in 0..4usize {
+        let to = Offset { byte: start + i };
+        if rest < 128 {
+            put(out, to, rest as u8);
+            return Offset { byte: to.byte + 1 };
+        }
+        put(out, to, (rest % 128 + 128) as u8);
+        rest = rest / 128;
     }
-    put(out, at, (x % 128 + 128) as u8);
-    let above7 = x / 128;
-    let third = Offset { byte: start + 2 };
-    if above7 < 128 {
-        put(out, second, (above7 % 256) as u8);
-        return third;
-    }
-    put(out, second, (above7 % 128 + 128) as u8);
-    put_from_third(out, third, above7 / 128)
+    put(out, Offset { byte: start + 4 }, rest as u8);
+    Offset { byte: start + 5 }
 }
 
 // Writes a list to an output, from an offset on, and answers the offset after it.
@@ -87,67 +62,54 @@ fn last(b: u32, x: u32, next: Offset) -> Result<Number, Refusal>
     Ok(Number { value: x, next })
 }
 
-// The number whose first three bytes make `low` and whose fourth stands at an offset.
-fn from_fourth(body: &[u8], at: Offset, low: u32) -> Result<Number, Refusal>
-    requires { low < 2 ^ 21 }
-    ensures { says_by number_told result ≡ later_at 1 (2 ^ 21) low body.now at.byte }
+// The byte at an offset, which has to be there.
+fn byte_at(body: &[u8], at: Offset) -> Result<u32, Refusal>
+    ensures { MatchResult result (λ b. Byte body.now at.byte b) (λ e. Cut body.now at.byte e) }
 {
-    let end = body.len();
-    let here = at.byte;
-    if end <= here {
+    let Some(&b) = body.get(at.byte) else {
         return Err(Refusal::CutShort);
-    }
-    let fourth = u32::from(body[here]);
-    if fourth < 128 {
-        return last(fourth, low + 2097152 * fourth, Offset { byte: here + 1 });
-    }
-    let low28 = low + 2097152 * (fourth - 128);
-    if end <= here + 1 {
-        return Err(Refusal::CutShort);
-    }
-    let fifth = u32::from(body[here + 1]);
-    if 15 < fifth {
-        return Err(Refusal::Broken);
-    }
-    last(fifth, low28 + 268435456 * fifth, Offset { byte: here + 2 })
+    };
+    Ok(u32::from(b))
 }
 
-// The number whose first byte makes `low` and whose second stands at an offset.
-fn from_second(body: &[u8], at: Offset, low: u32) -> Result<Number, Refusal>
-    requires { low < 2 ^ 7 }
-    ensures { says_by number_told result ≡ later_at 3 (2 ^ 7) low body.now at.byte }
+// The number whose first byte makes `first` and whose second stands at an offset.
+// kept: four bytes in a row, since a loop over them costs each number 2 to 4 instructions, and a far lookup under differences its goal.
+fn from_second(body: &[u8], at: Offset, first: u32) -> Result<Number, Refusal>
+    requires { first < 2 ^ 7 }
+    ensures { says_by number_told result ≡ later_at 3 (2 ^ 7) first body.now at.byte }
 {
-    let end = body.len();
     let here = at.byte;
-    if end <= here {
-        return Err(Refusal::CutShort);
-    }
-    let second = u32::from(body[here]);
+    let second = byte_at(body, at)?;
+    let next = Offset { byte: here + 1 };
     if second < 128 {
-        return last(second, low + 128 * second, Offset { byte: here + 1 });
+        return last(second, first + 128 * second, next);
     }
-    let low14 = low + 128 * (second - 128);
-    if end <= here + 1 {
-        return Err(Refusal::CutShort);
-    }
-    let third = u32::from(body[here + 1]);
+    let low14 = first + 128 * (second - 128);
+    let third = byte_at(body, next)?;
     let next = Offset { byte: here + 2 };
     if third < 128 {
         return last(third, low14 + 16384 * third, next);
     }
-    from_fourth(body, next, low14 + 16384 * (third - 128))
+    let low21 = low14 + 16384 * (third - 128);
+    let fourth = byte_at(body, next)?;
+    let next = Offset { byte: here + 3 };
+    if fourth < 128 {
+        return last(fourth, low21 + 2097152 * fourth, next);
+    }
+    let low28 = low21 + 2097152 * (fourth - 128);
+    let fifth = byte_at(body, next)?;
+    if 15 < fifth {
+        return Err(Refusal::Broken);
+    }
+    last(fifth, low28 + 268435456 * fifth, Offset { byte: here + 4 })
 }
 
 // The number at an offset; most take one byte.
 fn number_at(body: &[u8], at: Offset) -> Result<Number, Refusal>
     ensures { says_by number_told result ≡ number_at body.now at.byte }
 {
-    let here = at.byte;
-    if body.len() <= here {
-        return Err(Refusal::CutShort);
-    }
-    let next = Offset { byte: here + 1 };
-    let first = u32::from(body[here]);
+    let first = byte_at(body, at)?;
+    let next = Offset { byte: at.byte + 1 };
     if first < 128 {
         return Ok(Number { value: first, next });
     }
@@ -169,10 +131,10 @@ pub fn unit(body: &[u8], left: usize, at: Position) -> Result<UnitRead, Refusal>
     })
 }
 
-// Takes four numbers of one byte each, where four such stand at an offset; answers how many it took, 4 or none.
-fn take_four(body: &[u8], at: Offset, work: &mut [u32], from: Place) -> usize
+// Takes four numbers of one byte each where four such stand at an offset, and answers whether they do.
+fn take_four(body: &[u8], at: Offset, work: &mut [u32], from: Place) -> bool
     requires { (at.byte + 4 ≤ length body.now) × (from.number + 4 ≤ length work.old) }
-    ensures { Ones body.now at.byte 4 from.number work.old work.new result }
+    ensures { Ones body.now at.byte 4 from.number work.old work.new (cond result 4 0) }
 {
     let start = at.byte;
     let first = from.number;
@@ -180,23 +142,14 @@ fn take_four(body: &[u8], at: Offset, work: &mut [u32], from: Place) -> usize
     let b = u32::from(body[start + 1]);
     let c = u32::from(body[start + 2]);
     let d = u32::from(body[start + 3]);
-    if 127 < a {
-        return 0;
-    }
-    if 127 < b {
-        return 0;
-    }
-    if 127 < c {
-        return 0;
-    }
-    if 127 < d {
-        return 0;
+    if 127 < a || 127 < b || 127 < c || 127 < d {
+        return false;
     }
     work[first] = a;
     work[first + 1] = b;
     work[first + 2] = c;
     work[first + 3] = d;
-    4
+    true
 }
 
 // Takes numbers of one byte each from an offset on, four at a time and at most so many; answers how many it took.
@@ -206,20 +159,16 @@ fn take_ones(body: &[u8], at: Offset, work: &mut [u32], from: Place, most: usize
 {
     let start = at.byte;
     let first = from.number;
-    let end = body.len();
-    if end < start {
-        return 0;
-    }
-    let limit = most.min(end - start);
+    let limit = most.min(body.len().saturating_sub(start));
     let mut n: usize = 0;
+    // Four a turn, which no `for` says of two slices at once.
     while n + 4 <= limit {
         let byte = start + n;
         let number = first + n;
-        let more = take_four(body, Offset { byte }, work, Place { number });
-        if more == 0 {
+        if !take_four(body, Offset { byte }, work, Place { number }) {
             return n;
         }
-        n += more;
+        n += 4;
     }
     n
 }
@@ -240,17 +189,16 @@ pub fn take(
     let head = at.head;
     let first = from.number;
     let most = left.min(room);
-    let mut i = take_ones(body, head, work, from, most);
+    let ones = take_ones(body, head, work, from, most);
     let mut to = Offset {
-        byte: head.byte + i,
+        byte: head.byte + ones,
     };
-    while i < most {
+    for i in ones..most {
         let Ok(Number { value, next }) = number_at(body, to) else {
             return taken(at, i, i, 0, from_byte(to));
         };
         work[first + i] = value;
-        i += 1;
         to = next;
     }
-    taken(at, i, i, 0, from_byte(to))
+    taken(at, most, most, 0, from_byte(to))
 }

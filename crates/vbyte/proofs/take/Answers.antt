@@ -1,28 +1,17 @@
 -- `vbyte::take` meets its contract: numbers of one byte, and then each turn takes one number. Assumes nothing.
-use mathlib.Core.Path.{refl, ◌∙◌}
+use mathlib.Core.Path.{◌≡◌, refl}
 use native.Mathlib.Omega.{arith}
-use Rattle.vbyte.proofs.Takes.{ones-long, onward-turn, onward-end}
+use Rattle.vbyte.proofs.Takes.{onward-turn, onward-end}
 use Rattle.vbyte.proofs.take.Goals as goal
 
-pub overflow_add-to : goal.overflow_add-to
-overflow_add-to c = omega arith
-
-pub loop-i-init : goal.loop-i-init
-loop-i-init c =
-    let taken = c.take_ones-i.ensures in
-    record { many = taken.few; within = omega arith; fits = omega (arith, ones-long taken); long = refl; on = λ w₀ t. t }
-
-pub shape_of-work-in_default : goal.shape_of-work-in_default
-shape_of-work-in_default c = c.loop-i.invariant.long ∙ ones-long c.take_ones-i.ensures
-
 pub returns-in_default : goal.returns-in_default
-returns-in_default c = onward-end c.loop-i.invariant c.take_ones-i.ensures refl (omega arith) c.from_byte.ensures c.taken.ensures
+returns-in_default c = onward-end c.loop-i.invariant c.take_ones-ones.ensures refl (omega arith) c.from_byte.ensures c.taken.ensures
 
 pub loop-i-preserved : goal.loop-i-preserved
 loop-i-preserved c = onward-turn c.loop-i.invariant c.loop-i-test.true _ c.number_at.ensures c.in-Ok.is
 
-pub shape_of-work : goal.shape_of-work
-shape_of-work c = c.loop-i.invariant.long ∙ ones-long c.take_ones-i.ensures
-
 pub returns : goal.returns
-returns c = onward-end c.loop-i.invariant c.take_ones-i.ensures refl (omega arith) c.from_byte-2.ensures c.taken-2.ensures
+returns c =
+    let l = c.loop-i in
+    let all : l.i ≡ c.min-most.result = omega arith in
+    onward-end l.invariant c.take_ones-ones.ensures refl (omega arith) c.from_byte-2.ensures (rw (← all) at c.taken-2.ensures)

@@ -2,12 +2,9 @@
 use Rattle.std.proofs.Common.{arith}
 use Rattle.meaning.specs.VByte.{vbyte}
 use Rattle.leaves.proofs.Joined.{joined-rest, joined-past}
-use Rattle.leaves.proofs.Putting.{left-start, left-long, left-turn, left_end}
+use Rattle.leaves.proofs.Putting.{left-turn, left_end}
 use Rattle.vbyte.proofs.Laws.{most}
 use Rattle.vbyte.proofs.write.Goals as goal
-
-pub loop-x-init : goal.loop-x-init
-loop-x-init c = left-start _ _ _
 
 pub put_number-to-requires : goal.put_number-to-requires
 put_number-to-requires c = omega (arith, c.loop-x.invariant.ends, most c.args.list.now, c.requires.short)
@@ -16,9 +13,6 @@ pub loop-x-preserved : goal.loop-x-preserved
 loop-x-preserved c =
     let l = c.loop-x in
     left-turn l.invariant (joined-rest vbyte c.args.list.now 0 l.x-index c.loop-x-test.true) c.put_number-to.ensures
-
-pub shape_of-out : goal.shape_of-out
-shape_of-out c = left-long c.loop-x.invariant
 
 pub returns : goal.returns
 returns c = left_end c.loop-x.invariant (joined-past vbyte c.args.list.now c.loop-x.x-index c.loop-x-test.false)
