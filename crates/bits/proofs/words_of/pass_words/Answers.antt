@@ -1,6 +1,7 @@
 -- The words are counted one by one, and those that end before the k-th one are passed (`PassSo`). Assumes nothing.
 use native.Mathlib.Omega.{arith}
-use Rattle.bits.proofs.Counts.{pass-start, pass-turn, pass-stay, pass-end, count-few, word-few}
+use Rattle.bits.proofs.Counts.{pass-start, pass-turn, pass-stay, pass-none, pass-some, count-few, word-few}
+use Rattle.bits.proofs.words_of.pass_words.Goals.{then-through-k, else-through-k}
 use Rattle.bits.proofs.words_of.pass_words.Goals as goal
 
 pub loop-i-init : goal.loop-i-init
@@ -20,12 +21,15 @@ overflow_add-through c =
     let so = c.loop-i.invariant.count in
     omega (arith, count-few so, so.short, so.most, word-few so c.loop-i-test.true c.word_near-word.ensures)
 
-pub loop-i-preserved-then-through-k : goal.loop-i-preserved-then-through-k
-loop-i-preserved-then-through-k c =
-    pass-turn c.loop-i.invariant c.loop-i-test.true c.word_near-word.ensures (omega (arith, c.if-through-k.true))
-
 pub loop-i-preserved : goal.loop-i-preserved
-loop-i-preserved c = pass-stay c.loop-i.invariant c.loop-i-test.true c.word_near-word.ensures c.if-through-k.false
+loop-i-preserved c =
+    elim c.if-through-k.branch [
+      | then-through-k w ↦ rw w.passed-is (pass-turn c.loop-i.invariant c.loop-i-test.true c.word_near-word.ensures (omega (arith, w.if-through-k.true)))
+      | else-through-k w ↦ rw w.passed-is (pass-stay c.loop-i.invariant c.loop-i-test.true c.word_near-word.ensures w.if-through-k.false)
+    ]
+
+pub returns-then-passed-words : goal.returns-then-passed-words
+returns-then-passed-words c = pass-none c.loop-i.invariant c.if-passed-words.true
 
 pub returns : goal.returns
-returns c = pass-end c.loop-i.invariant c.loop-i-test.false
+returns c = pass-some c.loop-i.invariant c.if-passed-words.false c.loop-i-test.false
