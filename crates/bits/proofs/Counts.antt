@@ -5,7 +5,6 @@ use mathlib.Core.List.{List}
 use native.Mathlib.Omega.{arith}
 use lib.Count.{ones}
 use lib.ListN.{drop}
-use Rattle.std.specs.Prelude.{Some, None}
 use Rattle.meaning.specs.Bits.{low_bits}
 use Rattle.meaning.specs.Lists.{sum}
 use Rattle.meaning.specs.Places.{Below}
@@ -13,7 +12,6 @@ use Rattle.meaning.specs.Rank.{ones_before}
 use Rattle.meaning.proofs.Ranks.{ones-add, ones-few}
 use Rattle.meaning.proofs.Tests.{by_order}
 use Rattle.words.proofs.LowBits.{low_below}
-use Rattle.bits.specs.Passes.{Passes}
 use Rattle.bits.specs.declared.words_of.Passed.{Passed}
 use Rattle.bits.proofs.Near.{word_near, near-ones, words-drop}
 
@@ -51,9 +49,6 @@ module _ {bytes : List ℕ} {first words count i : ℕ} (so : CountSo bytes firs
         let rest = drop (first + 8 * i) bytes in
         omega (arith, ap ones e ∙ near-ones bytes (first + 8 * i) so.small, ones-few (low_bits rest) 64 (low_below rest))
 
-  pub count-end : words ≤ i → count ≡ ones_before (low_bits (drop first bytes)) (64 * words)
-  count-end done = let all : i ≡ words = omega (arith, so.most) in so.so ∙ ap (λ (n : ℕ). ones_before (low_bits (drop first bytes)) (64 * n)) all
-
 -- ---- which word holds the k-th one: the words passed are all those up to which no more than k ones stand
 pub record PassSo (bytes : List ℕ) (first words k : ℕ) (p : Passed) (through i : ℕ) : Type 0 where
   pub count : CountSo bytes first words through i
@@ -90,11 +85,3 @@ module _ {bytes : List ℕ} {first words k : ℕ} {p : Passed} {through i : ℕ}
         last : i + 1 ≡ suc p.words → through + ones word ≡ ones_before (low_bits (drop first bytes)) (64 * (i + 1))
             → k < ones_before (low_bits (drop first bytes)) (64 * suc p.words)
         last one all = rw (← one) (omega arith)
-
-  pub pass-none : p.words ≡ words → Passes (low_bits (drop first bytes)) words k None
-  pass-none all = omega (arith, so.few, so.so, ap (λ (n : ℕ). ones_before (low_bits (drop first bytes)) (64 * n)) all)
-
-  pub pass-some : (p.words ≡ words → ⊥) → words ≤ i → Passes (low_bits (drop first bytes)) words k (Some p)
-  pass-some fewer done =
-      let less : p.words < words = omega (arith, so.passed, so.count.most, fewer) in
-      record { less = less; counted = so.so; few = so.few; holds = so.holds (omega arith) }

@@ -37,9 +37,6 @@ pub record HalfSo (e word k rest left bit n : ℕ) : Type 0 where
   pub held : left < sum (bits_low (2 ^ n) rest)
   pub so : one_at e k (bits_low 64 word) ≡ later bit (one_at e left (bits_low (2 ^ n) rest))
 
-pub half-start : {e word k : ℕ} → k < sum (bits_low 64 word) → HalfSo e word k word k 0 6
-half-start {e} {word} {k} h = record { inside = omega arith; held = h; so = later-once (one_at e k (bits_low 64 word)) }
-
 -- the halves, by their places
 abbrev pub halves : List ℕ
 halves = 32 ∷ 16 ∷ 8 ∷ 4 ∷ 2 ∷ 1 ∷ []
@@ -81,9 +78,6 @@ module _ {e word k rest left bit half m : ℕ} (so : Halved e word k rest left b
 
   mask_is : 1 * 2 ^ half % 2 ^ 64 ≡ 2 ^ half
   mask_is = shifted_one half half-few
-
-  pub mask-some : 0 < 1 * 2 ^ half % 2 ^ 64
-  mask-some = omega (arith, mask_is, pow_pos half)
 
   -- how many ones the lower half has
   half-ones : ones (rest % (1 * 2 ^ half % 2 ^ 64)) ≡ sum (bits_low half rest)

@@ -6,7 +6,6 @@ use native.Mathlib.Nat.{zero-add}
 use native.Mathlib.Omega.{arith}
 use lib.Count.{ones}
 use lib.ListN.{take, drop, replicate, length}
-use lib.Pow.{pow_pos}
 use lib.Seq.{take_at, take-take, take-nil}
 use Rattle.meaning.specs.Bits.{bits_low, low_bits}
 use Rattle.meaning.specs.Lists.{sum}
@@ -44,9 +43,6 @@ near-below bytes at r b h =
 
 mask_is : (index : ℕ) → 1 * 2 ^ (index % 64) % 2 ^ 64 ≡ 2 ^ (index % 64)
 mask_is index = shifted_one (index % 64) (omega arith)
-
-pub below-some : (index : ℕ) → 0 < 1 * 2 ^ (index % 64) % 2 ^ 64
-below-some index = omega (arith, mask_is index, pow_pos (index % 64))
 
 -- the words before a bit's own are counted, and its own is read
 module _ (bytes : List ℕ) (index : ℕ) {before own : ℕ} (small : Below 256 bytes) (words : before ≡ ones_before (low_bits bytes) (64 * (index / 64)))

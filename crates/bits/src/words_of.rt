@@ -95,7 +95,7 @@ pub fn bit_in(word: u64, k: usize) -> usize
         if ones <= left {
             left -= ones;
             bit += half;
-            rest = rest >> half;
+            rest >>= half;
         }
     }
     bit

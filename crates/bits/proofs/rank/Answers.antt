@@ -4,7 +4,7 @@ use mathlib.Core.Path.{sym, ap, ◌∙◌}
 use native.Mathlib.Omega.{arith}
 use Rattle.meaning.specs.Answer.{given}
 use Rattle.bits.proofs.Asked.{rank-long, rank-past, rank-within}
-use Rattle.bits.proofs.Ranking.{below-some, rank-counted, rank-few}
+use Rattle.bits.proofs.Ranking.{rank-counted, rank-few}
 use Rattle.bits.proofs.rank.Goals as goal
 
 pub returns-then-len-gt-MOST_BYTES : goal.returns-then-len-gt-MOST_BYTES
@@ -12,9 +12,6 @@ returns-then-len-gt-MOST_BYTES c = sym (rank-long c.args.bytes.now c.args.bit.in
 
 pub returns-then-len-index : goal.returns-then-len-index
 returns-then-len-index c = sym (rank-past c.args.bytes.now c.args.bit.index c.if-len-gt-MOST_BYTES.false c.if-len-index.true)
-
-pub nonzero_rem-below-2 : goal.nonzero_rem-below-2
-nonzero_rem-below-2 c = below-some c.args.bit.index
 
 pub overflow_add-ones : goal.overflow_add-ones
 overflow_add-ones c =

@@ -13,24 +13,11 @@ returns-then-len-gt-MOST_BYTES c = sym (select-long c.args.bytes.now c.args.k (o
 pub loop-stretch-init : goal.loop-stretch-init
 loop-stretch-init c = select-start c.if-len-gt-MOST_BYTES.false
 
-pub ones_in-ones-requires : goal.ones_in-ones-requires
-ones_in-ones-requires c = let so = c.loop-stretch.invariant in omega (arith, so.short, so.near)
-
-pub one_in-requires : goal.one_in-requires
-one_in-requires c =
-    let so = c.loop-stretch.invariant in
-    omega (arith, so.short, so.near)
-
 -- a stretch with enough ones holds the one that is looked for
 pub returns-in_err-bit : goal.returns-in_err-bit
 returns-in_err-bit c =
     absurd (select-holds c.loop-stretch.invariant c.ones_in-ones.ensures c.if-left-ones.true
     (sym c.one_in.ensures ∙ ap (says_by bit_told) c.in_err-bit.was))
-
-pub overflow_mul-index : goal.overflow_mul-index
-overflow_mul-index c =
-    let so = c.loop-stretch.invariant in
-    omega (arith, so.short, so.near)
 
 pub overflow_add-index : goal.overflow_add-index
 overflow_add-index c =
