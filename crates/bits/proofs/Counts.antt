@@ -12,7 +12,7 @@ use Rattle.meaning.specs.Rank.{ones_before}
 use Rattle.meaning.proofs.Ranks.{ones-add, ones-few}
 use Rattle.meaning.proofs.Tests.{by_order}
 use Rattle.words.proofs.LowBits.{low_below}
-use Rattle.bits.specs.Passes.{Passes}
+use Rattle.bits.specs.declared.words_of.Passed.{Passed}
 use Rattle.bits.proofs.Near.{word_near, near-ones, words-drop}
 
 -- i words have been counted
@@ -49,30 +49,29 @@ module _ {bytes : List ℕ} {first words count i : ℕ} (so : CountSo bytes firs
         let rest = drop (first + 8 * i) bytes in
         omega (arith, ap ones e ∙ near-ones bytes (first + 8 * i) so.small, ones-few (low_bits rest) 64 (low_below rest))
 
-  pub count-end : words ≤ i → count ≡ ones_before (low_bits (drop first bytes)) (64 * words)
-  count-end done = let all : i ≡ words = omega (arith, so.most) in so.so ∙ ap (λ (n : ℕ). ones_before (low_bits (drop first bytes)) (64 * n)) all
-
 -- ---- which word holds the k-th one: the words passed are all those up to which no more than k ones stand
-pub record PassSo (bytes : List ℕ) (first words k before below through i : ℕ) : Type 0 where
+pub record PassSo (bytes : List ℕ) (first words k : ℕ) (p : Passed) (through i : ℕ) : Type 0 where
   pub count : CountSo bytes first words through i
-  pub passed : before ≤ i
-  pub so : below ≡ ones_before (low_bits (drop first bytes)) (64 * before)
-  pub few : below ≤ k
-  pub holds : before < i → k < ones_before (low_bits (drop first bytes)) (64 * suc before)
+  pub passed : p.words ≤ i
+  pub so : p.ones ≡ ones_before (low_bits (drop first bytes)) (64 * p.words)
+  pub few : p.ones ≤ k
+  pub holds : p.words < i → k < ones_before (low_bits (drop first bytes)) (64 * suc p.words)
 
-pub pass-start : {bytes : List ℕ} {first words k : ℕ} → Below 256 bytes → first + 8 * words < 2 ^ 32 → PassSo bytes first words k 0 0 0 0
+pub pass-start : {bytes : List ℕ} {first words k : ℕ} → Below 256 bytes → first + 8 * words < 2 ^ 32
+    → PassSo bytes first words k (record { words = 0; ones = 0 }) 0 0
 pass-start b h =
     let none = count-start b h in
     record { count = none; passed = omega arith; so = none.so; few = omega arith; holds = λ z. absurd (omega arith) }
 
-module _ {bytes : List ℕ} {first words k before below through i : ℕ} (so : PassSo bytes first words k before below through i) where
+module _ {bytes : List ℕ} {first words k : ℕ} {p : Passed} {through i : ℕ} (so : PassSo bytes first words k p through i) where
   module _ {word : ℕ} (more : i < words) (e : word ≡ word_near bytes (first + 8 * i)) where
-    pub pass-turn : through + ones word ≤ k → PassSo bytes first words k (i + 1) (through + ones word) (through + ones word) (i + 1)
+    pub pass-turn : through + ones word ≤ k
+        → PassSo bytes first words k (record { words = i + 1; ones = through + ones word }) (through + ones word) (i + 1)
     pass-turn h =
         let next = count_turn so.count more e in
         record { count = next; passed = omega arith; so = next.so; few = h; holds = λ z. absurd (omega arith) }
 
-    pub pass-stay : k < through + ones word → PassSo bytes first words k before below (through + ones word) (i + 1)
+    pub pass-stay : k < through + ones word → PassSo bytes first words k p (through + ones word) (i + 1)
     pass-stay h =
         let next = count_turn so.count more e in
         record {
@@ -80,18 +79,9 @@ module _ {bytes : List ℕ} {first words k before below through i : ℕ} (so : P
           passed = omega (arith, so.passed);
           so = so.so;
           few = so.few;
-          holds = λ z. by_order before i so.holds (λ here. last (omega (arith, so.passed)) next.so);
+          holds = λ z. by_order p.words i so.holds (λ here. last (omega (arith, so.passed)) next.so);
         }
       where
-        last : i + 1 ≡ suc before → through + ones word ≡ ones_before (low_bits (drop first bytes)) (64 * (i + 1))
-            → k < ones_before (low_bits (drop first bytes)) (64 * suc before)
+        last : i + 1 ≡ suc p.words → through + ones word ≡ ones_before (low_bits (drop first bytes)) (64 * (i + 1))
+            → k < ones_before (low_bits (drop first bytes)) (64 * suc p.words)
         last one all = rw (← one) (omega arith)
-
-  pub pass-end : words ≤ i → Passes (low_bits (drop first bytes)) words k (record { words = before; ones = below })
-  pass-end done =
-      record {
-        most = omega (arith, so.passed, so.count.most);
-        counted = so.so;
-        few = so.few;
-        holds = λ h. so.holds (omega arith);
-      }

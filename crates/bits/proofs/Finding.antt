@@ -5,6 +5,7 @@ use mathlib.Core.List.{List}
 use native.Mathlib.Omega.{arith}
 use lib.ListN.{length, take, drop, length-take, length-drop, take-append-drop}
 use lib.Seq.{length-take-le}
+use Rattle.std.specs.Prelude.{None}
 use Rattle.meaning.specs.Answer.{given, refused}
 use Rattle.meaning.specs.Bits.{bits_low, low_bits}
 use Rattle.meaning.specs.Limits.{no_place}
@@ -16,7 +17,7 @@ use Rattle.meaning.proofs.Bounds.{below-take, below-drop}
 use Rattle.meaning.proofs.Ranks.{later, ones-add, one-is, one_none, one_left, one_right, one-among}
 use Rattle.meaning.proofs.Tests.{by_order}
 use Rattle.words.proofs.LowBits.{low_below}
-use Rattle.bits.specs.Passes.{Passes}
+use Rattle.bits.specs.Passes.{Holds, Passes}
 use Rattle.bits.specs.declared.words_of.Passed.{Passed}
 use Rattle.bits.proofs.Near.{word_near, near-sum, near-one, words-drop}
 
@@ -46,51 +47,45 @@ module _ (e k : ℕ) (bits : List ℕ) (m w : ℕ) {j : ℕ} (b : Below 2 bits) 
       ∙ ap (later (length (take m bits))) there ∙ ap (λ (n : ℕ). given (n + j)) long
 
 -- ---- in so many words from an offset on
-pub record InSo (bytes : List ℕ) (from words k : ℕ) (r : Passed) : Type 0 where
-  pub small : Below 256 bytes
-  pub passes : Passes (low_bits (drop from bytes)) words k r
-
-module _ {bytes : List ℕ} {from words k : ℕ} {r : Passed} (so : InSo bytes from words k r) where
+module _ (bytes : List ℕ) (from words k : ℕ) where
   -- none of them holds it
-  pub none_in : r.words ≡ words → one_at no_place k (take (64 * words) (low_bits (drop from bytes))) ≡ refused no_place
+  pub none_in : Passes (low_bits (drop from bytes)) words k None → one_at no_place k (take (64 * words) (low_bits (drop from bytes))) ≡ refused no_place
   unfolding ones_before
-  none_in all =
+  none_in few =
       let bits = low_bits (drop from bytes) in
-      let p = so.passes in
-      one_none no_place k (take (64 * words) bits) (below-take 2 (64 * words) bits (low_below (drop from bytes)))
-      (omega (arith, p.few, p.counted, ap (λ (n : ℕ). ones_before bits (64 * n)) all))
+      one_none no_place k (take (64 * words) bits) (below-take 2 (64 * words) bits (low_below (drop from bytes))) few
 
-  few : ones_before (low_bits (drop from bytes)) (64 * r.words) ≤ k
-  few = omega (arith, so.passes.counted, so.passes.few)
+module _ (bytes : List ℕ) (from : ℕ) {words k : ℕ} {p : Passed} {word : ℕ} (small : Below 256 bytes) (so : Holds (low_bits (drop from bytes)) words k p)
+    (e : word ≡ word_near bytes (from + 8 * p.words)) where
+  few : ones_before (low_bits (drop from bytes)) (64 * p.words) ≤ k
+  few = omega (arith, so.counted, so.few)
 
-  module _ {word : ℕ} (more : r.words < words) (e : word ≡ word_near bytes (from + 8 * r.words)) where
-    -- the word behind those passed holds it
-    pub word_holds : k - r.ones < sum (bits_low 64 word)
-    word_holds =
+  -- the word behind those passed holds it
+  pub word_holds : k - p.ones < sum (bits_low 64 word)
+  word_holds =
+      let bits = low_bits (drop from bytes) in
+      let m : ℕ = 64 * p.words in
+      let wide : 64 * suc p.words ≡ m + 64 = omega arith in
+      let here : sum (bits_low 64 word) ≡ ones_before (drop m bits) 64 =
+      ap (λ (x : ℕ). sum (bits_low 64 x)) e ∙ near-sum bytes (from + 8 * p.words) small
+      ∙ ap (λ (l : List ℕ). ones_before l 64) (sym (words-drop bytes from p.words)) in
+      omega (arith, so.counted, so.few, so.holds, ap (ones_before bits) wide, ones-add bits m 64)
+
+  module _ {j : ℕ} (found : one_at no_place (k - p.ones) (bits_low 64 word) ≡ given j) where
+    at-word : one_at no_place (k - ones_before (low_bits (drop from bytes)) (64 * p.words)) (take 64 (drop (64 * p.words) (low_bits (drop from bytes))))
+        ≡ given j
+    at-word =
+        ap (λ (n : ℕ). one_at no_place (k - n) (take 64 (drop (64 * p.words) (low_bits (drop from bytes))))) (sym so.counted)
+        ∙ ap (λ (l : List ℕ). one_at no_place (k - p.ones) (take 64 l)) (words-drop bytes from p.words)
+        ∙ sym (near-one bytes (from + 8 * p.words) small no_place (k - p.ones))
+        ∙ ap (λ (x : ℕ). one_at no_place (k - p.ones) (bits_low 64 x)) (sym e) ∙ found
+
+    pub one-small : j < 64
+    one-small = (window-inside no_place k (low_bits (drop from bytes)) (64 * p.words) 64 (low_below (drop from bytes)) few at-word).1
+
+    pub one_found : given (64 * p.words + j) ≡ one_at no_place k (take (64 * words) (low_bits (drop from bytes)))
+    one_found =
         let bits = low_bits (drop from bytes) in
-        let p = so.passes in
-        let m : ℕ = 64 * r.words in
-        let wide : 64 * suc r.words ≡ m + 64 = omega arith in
-        let here : sum (bits_low 64 word) ≡ ones_before (drop m bits) 64 =
-        ap (λ (x : ℕ). sum (bits_low 64 x)) e ∙ near-sum bytes (from + 8 * r.words) so.small
-        ∙ ap (λ (l : List ℕ). ones_before l 64) (sym (words-drop bytes from r.words)) in
-        omega (arith, p.counted, p.few, p.holds more, ap (ones_before bits) wide, ones-add bits m 64)
-
-    module _ {j : ℕ} (found : one_at no_place (k - r.ones) (bits_low 64 word) ≡ given j) where
-      at-word : one_at no_place (k - ones_before (low_bits (drop from bytes)) (64 * r.words)) (take 64 (drop (64 * r.words) (low_bits (drop from bytes))))
-          ≡ given j
-      at-word =
-          ap (λ (n : ℕ). one_at no_place (k - n) (take 64 (drop (64 * r.words) (low_bits (drop from bytes))))) (sym so.passes.counted)
-          ∙ ap (λ (l : List ℕ). one_at no_place (k - r.ones) (take 64 l)) (words-drop bytes from r.words)
-          ∙ sym (near-one bytes (from + 8 * r.words) so.small no_place (k - r.ones))
-          ∙ ap (λ (x : ℕ). one_at no_place (k - r.ones) (bits_low 64 x)) (sym e) ∙ found
-
-      pub one-small : j < 64
-      one-small = (window-inside no_place k (low_bits (drop from bytes)) (64 * r.words) 64 (low_below (drop from bytes)) few at-word).1
-
-      pub one_found : given (64 * r.words + j) ≡ one_at no_place k (take (64 * words) (low_bits (drop from bytes)))
-      one_found =
-          let bits = low_bits (drop from bytes) in
-          let low = low_below (drop from bytes) in
-          let whole = one-window no_place k bits (64 * r.words) 64 low few at-word in
-          sym (one-among no_place k bits (64 * r.words + j) low whole (64 * words) (omega (arith, one-small)))
+        let low = low_below (drop from bytes) in
+        let whole = one-window no_place k bits (64 * p.words) 64 low few at-word in
+        sym (one-among no_place k bits (64 * p.words + j) low whole (64 * words) (omega (arith, one-small, so.less)))

@@ -4,8 +4,8 @@ use mathlib.Core.Path.{◌≡◌, refl, sym, ap, ap₂, ◌∙◌}
 use mathlib.Core.List.{List, [], ◌∷◌, ◌++◌}
 use native.Mathlib.Nat.{add-zero, one-mul, two-pow-succ, mod-lt}
 use native.Mathlib.Omega.{arith}
-use lib.Count.{ones, ones-le}
-use lib.ListN.{length}
+use lib.Count.{ones}
+use lib.ListN.{length, get_or}
 use lib.Pow.{pow_pos, shl_exact}
 use Rattle.meaning.specs.Answer.{Answer, given, refused}
 use Rattle.meaning.specs.Bits.{bits_low}
@@ -32,68 +32,62 @@ pub low_ones : (k c : ℕ) → ones (c % 2 ^ k) ≡ sum (bits_low k c)
 low_ones k c = sym (bits-ones k (c % 2 ^ k) (mod-lt c (pow_pos k))) ∙ ap sum (bits-low k c)
 
 -- the one that is looked for is the left-th of the lowest 2 ^ n bits of the rest, which stand from a bit of the word on
-pub record HalfSo (e word k rest left bit half : ℕ) : Type 0 where
-  pub n : ℕ
-  pub is : half ≡ 2 ^ n / 2
+pub record HalfSo (e word k rest left bit n : ℕ) : Type 0 where
   pub inside : bit + 2 ^ n ≤ 64
   pub held : left < sum (bits_low (2 ^ n) rest)
   pub so : one_at e k (bits_low 64 word) ≡ later bit (one_at e left (bits_low (2 ^ n) rest))
 
-pub half-start : {e word k : ℕ} → k < sum (bits_low 64 word) → HalfSo e word k word k 0 32
-half-start {e} {word} {k} h = record { n = 6; is = refl; inside = omega arith; held = h; so = later-once (one_at e k (bits_low 64 word)) }
+-- the halves, by their places
+abbrev pub halves : List ℕ
+halves = 32 ∷ 16 ∷ 8 ∷ 4 ∷ 2 ∷ 1 ∷ []
 
-half_of : (n half : ℕ) → half ≡ 2 ^ n / 2 → 0 < half → (m : ℕ) × (2 ^ n ≡ half + half) × (half ≡ 2 ^ m)
-half_of zero half e more = absurd (omega arith)
-half_of (suc m) half e more =
-    let two : 2 ^ suc m ≡ 2 ^ m + 2 ^ m = two-pow-succ m in
-    let is : half ≡ 2 ^ m = omega arith in
-    (m, omega arith, is)
+half_at : (i : ℕ) → i < 6 → get_or halves i 0 ≡ 2 ^ (6 - (i + 1))
+half_at zero h = refl
+half_at (suc zero) h = refl
+half_at (suc (suc zero)) h = refl
+half_at (suc (suc (suc zero))) h = refl
+half_at (suc (suc (suc (suc zero)))) h = refl
+half_at (suc (suc (suc (suc (suc zero))))) h = refl
+half_at (suc (suc (suc (suc (suc (suc i)))))) h = absurd (omega arith)
 
 -- the same where a half is left
-pub record Halved (e word k rest left bit half : ℕ) : Type 0 where
-  pub m : ℕ
+pub record Halved (e word k rest left bit half m : ℕ) : Type 0 where
   pub is : half ≡ 2 ^ m
   pub inside : bit + (half + half) ≤ 64
   pub held : left < sum (bits_low half rest) + sum (bits_low half (rest / 2 ^ half))
   pub so : one_at e k (bits_low 64 word) ≡ later bit (one_at e left (bits_low half rest ++ bits_low half (rest / 2 ^ half)))
 
-pub halved : {e word k rest left bit half : ℕ} → HalfSo e word k rest left bit half → 0 < half → Halved e word k rest left bit half
-halved {e} {word} {k} {rest} {left} {bit} {half} so more =
-    let (m, two, is) = half_of so.n half so.is more in
-    let parts : bits_low (2 ^ so.n) rest ≡ bits_low half rest ++ bits_low half (rest / 2 ^ half) =
+pub halved : {e word k rest left bit i : ℕ} → HalfSo e word k rest left bit (6 - i) → i < 6 → Halved e word k rest left bit (get_or halves i 0) (6 - (i + 1))
+halved {e} {word} {k} {rest} {left} {bit} {i} so more =
+    let half = get_or halves i 0 in
+    let is : half ≡ 2 ^ (6 - (i + 1)) = half_at i more in
+    let next : 6 - i ≡ suc (6 - (i + 1)) = omega arith in
+    let two : 2 ^ (6 - i) ≡ half + half = ap (λ (n : ℕ). 2 ^ n) next ∙ two-pow-succ (6 - (i + 1)) ∙ rw is in
+    let parts : bits_low (2 ^ (6 - i)) rest ≡ bits_low half rest ++ bits_low half (rest / 2 ^ half) =
     ap (λ (w : ℕ). bits_low w rest) two ∙ bits-parts half half rest ∙ ap (λ (l : List ℕ). l ++ bits_low half (rest / 2 ^ half)) (bits-low half rest) in
     record {
-      m = m;
       is = is;
-      inside = omega (arith, so.inside);
+      inside = omega (arith, so.inside, two);
       held = omega (arith, so.held, ap sum parts, sum-append (bits_low half rest) (bits_low half (rest / 2 ^ half)));
       so = so.so ∙ ap (λ (l : List ℕ). later bit (one_at e left l)) parts;
     }
 
-module _ {e word k rest left bit half : ℕ} (so : Halved e word k rest left bit half) where
-  mask_is : 1 * 2 ^ half % 2 ^ 64 ≡ 2 ^ half
-  mask_is = shifted_one half (omega (arith, so.inside, so.is, pow_pos so.m))
+module _ {e word k rest left bit half m : ℕ} (so : Halved e word k rest left bit half m) where
+  pub half-few : half < 64
+  half-few = omega (arith, so.inside, so.is, pow_pos m)
 
-  pub mask-some : 0 < 1 * 2 ^ half % 2 ^ 64
-  mask-some = omega (arith, mask_is, pow_pos half)
+  mask_is : 1 * 2 ^ half % 2 ^ 64 ≡ 2 ^ half
+  mask_is = shifted_one half half-few
 
   -- how many ones the lower half has
-  pub half-ones : ones (rest % (1 * 2 ^ half % 2 ^ 64)) ≡ sum (bits_low half rest)
+  half-ones : ones (rest % (1 * 2 ^ half % 2 ^ 64)) ≡ sum (bits_low half rest)
   half-ones = ap (λ (x : ℕ). ones (rest % x)) mask_is ∙ low_ones half rest
 
-  pub half-few : ones (rest % (1 * 2 ^ half % 2 ^ 64)) ≤ half
-  half-few = omega (arith, ap (λ (x : ℕ). ones (rest % x)) mask_is, ones-le half (rest % 2 ^ half) (mod-lt rest (pow_pos half)))
-
-  half-next : half / 2 ≡ 2 ^ so.m / 2
-  half-next = ap (λ (x : ℕ). x / 2) so.is
-
-  pub half-lower : left < ones (rest % (1 * 2 ^ half % 2 ^ 64)) → HalfSo e word k rest left bit (half / 2)
+  pub half-lower : left < ones (rest % (1 * 2 ^ half % 2 ^ 64)) → HalfSo e word k rest left bit m
   half-lower h =
       let here : left < sum (bits_low half rest) = omega (arith, half-ones) in
-      let wide : bits_low half rest ≡ bits_low (2 ^ so.m) rest = ap (λ (w : ℕ). bits_low w rest) so.is in
+      let wide : bits_low half rest ≡ bits_low (2 ^ m) rest = ap (λ (w : ℕ). bits_low w rest) so.is in
       record {
-        n = so.m;
-        is = half-next;
         inside = omega (arith, so.inside, so.is);
         held = omega (arith, ap sum wide);
         so = so.so
@@ -101,15 +95,13 @@ module _ {e word k rest left bit half : ℕ} (so : Halved e word k rest left bit
       }
 
   pub half-upper : ones (rest % (1 * 2 ^ half % 2 ^ 64)) ≤ left
-      → HalfSo e word k (rest / 2 ^ half) (left - ones (rest % (1 * 2 ^ half % 2 ^ 64))) (bit + half) (half / 2)
+      → HalfSo e word k (rest / 2 ^ half) (left - ones (rest % (1 * 2 ^ half % 2 ^ 64))) (bit + half) m
   half-upper h =
       let low = bits_low half rest in
       let high = bits_low half (rest / 2 ^ half) in
       let passed : sum low ≤ left = omega (arith, half-ones) in
-      let wide : high ≡ bits_low (2 ^ so.m) (rest / 2 ^ half) = ap (λ (w : ℕ). bits_low w (rest / 2 ^ half)) so.is in
+      let wide : high ≡ bits_low (2 ^ m) (rest / 2 ^ half) = ap (λ (w : ℕ). bits_low w (rest / 2 ^ half)) so.is in
       record {
-        n = so.m;
-        is = half-next;
         inside = omega (arith, so.inside, so.is);
         held = omega (arith, so.held, half-ones, ap sum wide);
         so = so.so ∙ ap (later bit) (one_right e left low high (bits_below half rest) passed)
@@ -125,11 +117,9 @@ one_bit e left zero h more = absurd (omega arith)
 one_bit e zero (suc b) h more = refl
 one_bit e (suc left) (suc b) h more = absurd (omega arith)
 
-last_bit : (e n rest left : ℕ) → left < sum (bits_low (2 ^ n) rest) → 2 ^ n / 2 ≡ 0 → one_at e left (bits_low (2 ^ n) rest) ≡ given 0
+pub half-end : {e word k rest left bit n : ℕ} → HalfSo e word k rest left bit n → n ≡ 0 → one_at e k (bits_low 64 word) ≡ given bit
 unfolding bits_low sum
-last_bit e zero rest left h z = one_bit e left (rest % 2) (omega arith) (omega arith)
-last_bit e (suc n) rest left h z = absurd (omega (arith, two-pow-succ n, pow_pos n))
-
-pub half-end : {e word k rest left bit half : ℕ} → HalfSo e word k rest left bit half → half ≤ 0 → one_at e k (bits_low 64 word) ≡ given bit
-half-end {e} {word} {k} {rest} {left} {bit} {half} so done =
-    so.so ∙ ap (later bit) (last_bit e so.n rest left so.held (omega (arith, so.is))) ∙ ap (λ (n : ℕ). given n) (add-zero bit)
+half-end {e} {word} {k} {rest} {left} {bit} {n} so z =
+    let last : left < sum (bits_low 1 rest) = rw z at so.held in
+    let whole : one_at e k (bits_low 64 word) ≡ later bit (one_at e left (bits_low 1 rest)) = rw z at so.so in
+    whole ∙ ap (later bit) (one_bit e left (rest % 2) (omega arith) (omega arith)) ∙ ap (λ (n : ℕ). given n) (add-zero bit)

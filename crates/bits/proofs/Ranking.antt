@@ -6,7 +6,6 @@ use native.Mathlib.Nat.{zero-add}
 use native.Mathlib.Omega.{arith}
 use lib.Count.{ones}
 use lib.ListN.{take, drop, replicate, length}
-use lib.Pow.{pow_pos}
 use lib.Seq.{take_at, take-take, take-nil}
 use Rattle.meaning.specs.Bits.{bits_low, low_bits}
 use Rattle.meaning.specs.Lists.{sum}
@@ -42,30 +41,23 @@ near-below bytes at r b h =
     ∙ ap (λ (xs : List ℕ). ones_before xs r) (near-bits bytes at b) ∙ before-zeros (take 64 l) (64 - 8 * length (take 8 (drop at bytes))) r
     ∙ ap sum (take-take r 64 l (omega arith))
 
+mask_is : (index : ℕ) → 1 * 2 ^ (index % 64) % 2 ^ 64 ≡ 2 ^ (index % 64)
+mask_is index = shifted_one (index % 64) (omega arith)
+
 -- the words before a bit's own are counted, and its own is read
-pub record RankSo (bytes : List ℕ) (index before own : ℕ) : Type 0 where
-  pub small : Below 256 bytes
-  pub words : before ≡ ones_before (low_bits bytes) (64 * (index / 64))
-  pub word : own ≡ word_near bytes (8 * (index / 64))
-
-module _ {bytes : List ℕ} {index before own : ℕ} (so : RankSo bytes index before own) where
-  mask_is : 1 * 2 ^ (index % 64) % 2 ^ 64 ≡ 2 ^ (index % 64)
-  mask_is = shifted_one (index % 64) (omega arith)
-
-  pub below-some : 0 < 1 * 2 ^ (index % 64) % 2 ^ 64
-  below-some = omega (arith, mask_is, pow_pos (index % 64))
-
+module _ (bytes : List ℕ) (index : ℕ) {before own : ℕ} (small : Below 256 bytes) (words : before ≡ ones_before (low_bits bytes) (64 * (index / 64)))
+    (word : own ≡ word_near bytes (8 * (index / 64))) where
   pub rank-counted : before + ones (own % (1 * 2 ^ (index % 64) % 2 ^ 64)) ≡ ones_before (low_bits bytes) index
   rank-counted =
       let w : ℕ = index / 64 in
       let r : ℕ = index % 64 in
       let split : index ≡ 64 * w + r = omega arith in
       let own-ones : ones (own % (1 * 2 ^ r % 2 ^ 64)) ≡ ones_before (low_bits (drop (8 * w) bytes)) r =
-      ap (λ (x : ℕ). ones (x % (1 * 2 ^ r % 2 ^ 64))) so.word ∙ near-below bytes (8 * w) r so.small (omega arith) in
+      ap (λ (x : ℕ). ones (x % (1 * 2 ^ r % 2 ^ 64))) word ∙ near-below bytes (8 * w) r small (omega arith) in
       let rest : drop (64 * w) (low_bits bytes) ≡ low_bits (drop (8 * w) bytes) =
       words-drop bytes 0 w ∙ ap (λ (n : ℕ). low_bits (drop n bytes)) (zero-add (8 * w)) in
       let there : ones_before (drop (64 * w) (low_bits bytes)) r ≡ ones_before (low_bits (drop (8 * w) bytes)) r = ap (λ (l : List ℕ). ones_before l r) rest in
-      omega (arith, so.words, ap (ones_before (low_bits bytes)) split, ones-add (low_bits bytes) (64 * w) r)
+      omega (arith, words, ap (ones_before (low_bits bytes)) split, ones-add (low_bits bytes) (64 * w) r)
 
   pub rank-few : before + ones (own % (1 * 2 ^ (index % 64) % 2 ^ 64)) ≤ index
   rank-few = omega (arith, rank-counted, ones-few (low_bits bytes) index (low_below bytes))

@@ -29,7 +29,7 @@ pub fn rank(bytes: &[u8], bit: Bit) -> Result<usize, Refusal>
     let before = ones_in(bytes, Offset { byte: 0 }, words);
     let own = word_near(bytes, Offset { byte: 8 * words });
     let below = own % (1 << (index % 64));
-    let ones = before + u64::count_ones(below) as usize;
+    let ones = before + below.count_ones() as usize;
     Ok(ones)
 }
 
@@ -39,14 +39,10 @@ pub fn one_in(bytes: &[u8], from: Offset, words: usize, k: usize) -> Result<Bit,
     requires { from.byte + 8 * words < 2 ^ 32 }
     ensures { says_by bit_told result ≡ one_at no_place k (take (64 * words) (low_bits (drop from.byte bytes.now))) }
 {
-    let passed = pass_words(bytes, from, words, k);
-    let before = passed.words;
-    if before == words {
-        return Err(Refusal::NoPlace);
-    }
-    let byte = from.byte + 8 * before;
+    let passed = pass_words(bytes, from, words, k).ok_or(Refusal::NoPlace)?;
+    let byte = from.byte + 8 * passed.words;
     let word = word_near(bytes, Offset { byte });
-    let index = 64 * before + bit_in(word, k - passed.ones);
+    let index = 64 * passed.words + bit_in(word, k - passed.ones);
     Ok(Bit { index })
 }
 
@@ -58,9 +54,9 @@ pub fn select(bytes: &[u8], k: usize) -> Result<Bit, Refusal>
     if MOST_BYTES < len {
         return Err(Refusal::NoSheet);
     }
-    let mut byte: usize = 0;
     let mut left = k;
-    while byte < len {
+    for stretch in 0..len.div_ceil(64) {
+        let byte = 64 * stretch;
         let from = Offset { byte };
         let ones = ones_in(bytes, from, 8);
         if left < ones {
@@ -69,7 +65,6 @@ pub fn select(bytes: &[u8], k: usize) -> Result<Bit, Refusal>
             return Ok(Bit { index });
         }
         left -= ones;
-        byte += 64;
     }
     Err(Refusal::NoPlace)
 }

@@ -8,7 +8,6 @@ ghost use Rattle.meaning.specs.Lists.{sum};
 ghost use Rattle.meaning.specs.Rank.{ones_before, one_at};
 ghost use Rattle.bits.specs.Passes.{Passes};
 
-use leaves::lesser;
 use meaning::Offset;
 use words::eight_at;
 
@@ -19,17 +18,15 @@ pub struct Passed {
     pub ones: usize,
 }
 
-// The number in the last bytes of a slice, fewer than 8, from an offset on.
+// The number in the last bytes of a slice, fewer than 8, from an offset on. Apart, since within the loops over words it takes their registers.
+#[inline(never)]
 fn word_end(bytes: &[u8], at: Offset) -> u64
     requires { length bytes.now < at.byte + 8 }
     ensures { result ≡ number_of (take 8 (drop at.byte bytes.now)) }
 {
-    let start = at.byte;
-    let mut i = bytes.len();
     let mut x: u64 = 0;
-    while start < i {
-        i -= 1;
-        x = 256 * x + bytes[i] as u64;
+    for i in (at.byte..bytes.len()).rev() {
+        x = 256 * x + u64::from(bytes[i]);
     }
     x
 }
@@ -38,8 +35,7 @@ fn word_end(bytes: &[u8], at: Offset) -> u64
 pub fn word_near(bytes: &[u8], at: Offset) -> u64
     ensures { result ≡ number_of (take 8 (drop at.byte bytes.now)) }
 {
-    let len = bytes.len();
-    if at.byte < len - lesser(len, 7) {
+    if at.byte < bytes.len().saturating_sub(7) {
         return eight_at(bytes, at);
     }
     word_end(bytes, at)
@@ -52,40 +48,37 @@ pub fn ones_in(bytes: &[u8], from: Offset, words: usize) -> usize
 {
     let first = from.byte;
     let mut ones: usize = 0;
-    let mut i: usize = 0;
-    while i < words {
+    for i in 0..words {
         let byte = first + 8 * i;
         let word = word_near(bytes, Offset { byte });
-        ones += u64::count_ones(word) as usize;
-        i += 1;
+        ones += word.count_ones() as usize;
     }
     ones
 }
 
-// The words, of so many from an offset on, that come before the one that holds the k-th one; all of them where none does. Every word is counted.
-pub fn pass_words(bytes: &[u8], from: Offset, words: usize, k: usize) -> Passed
+// The words, of so many from an offset on, that come before the one that holds the k-th one, if any does. Every word is counted.
+pub fn pass_words(bytes: &[u8], from: Offset, words: usize, k: usize) -> Option<Passed>
     requires { from.byte + 8 * words < 2 ^ 32 }
     ensures { Passes (low_bits (drop from.byte bytes.now)) words k result }
 {
     let first = from.byte;
-    let mut before: usize = 0;
-    let mut ones: usize = 0;
+    let mut passed = Passed { words: 0, ones: 0 };
     let mut through: usize = 0;
-    let mut i: usize = 0;
-    while i < words {
+    for i in 0..words {
         let byte = first + 8 * i;
         let word = word_near(bytes, Offset { byte });
-        through += u64::count_ones(word) as usize;
-        i += 1;
+        through += word.count_ones() as usize;
         if through <= k {
-            before = i;
-            ones = through;
+            passed = Passed {
+                words: i + 1,
+                ones: through,
+            };
         }
     }
-    Passed {
-        words: before,
-        ones,
+    if passed.words == words {
+        return None;
     }
+    Some(passed)
 }
 
 // The bit of the k-th one of a word, which has it: half of what is left is passed or not, six times.
@@ -96,16 +89,14 @@ pub fn bit_in(word: u64, k: usize) -> usize
     let mut rest = word;
     let mut left = k;
     let mut bit: usize = 0;
-    let mut half: usize = 32;
-    while 0 < half {
+    for half in [32, 16, 8, 4, 2, 1] {
         let low = rest % (1 << half);
-        let ones = u64::count_ones(low) as usize;
+        let ones = low.count_ones() as usize;
         if ones <= left {
             left -= ones;
             bit += half;
-            rest = rest >> half;
+            rest >>= half;
         }
-        half = half / 2;
     }
     bit
 }

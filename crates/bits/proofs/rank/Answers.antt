@@ -4,7 +4,7 @@ use mathlib.Core.Path.{sym, ap, ◌∙◌}
 use native.Mathlib.Omega.{arith}
 use Rattle.meaning.specs.Answer.{given}
 use Rattle.bits.proofs.Asked.{rank-long, rank-past, rank-within}
-use Rattle.bits.proofs.Ranking.{RankSo, below-some, rank-counted, rank-few}
+use Rattle.bits.proofs.Ranking.{rank-counted, rank-few}
 use Rattle.bits.proofs.rank.Goals as goal
 
 pub returns-then-len-gt-MOST_BYTES : goal.returns-then-len-gt-MOST_BYTES
@@ -13,27 +13,12 @@ returns-then-len-gt-MOST_BYTES c = sym (rank-long c.args.bytes.now c.args.bit.in
 pub returns-then-len-index : goal.returns-then-len-index
 returns-then-len-index c = sym (rank-past c.args.bytes.now c.args.bit.index c.if-len-gt-MOST_BYTES.false c.if-len-index.true)
 
-pub nonzero_rem-below-2 : goal.nonzero_rem-below-2
-nonzero_rem-below-2 c =
-    let counted : RankSo c.args.bytes.now c.args.bit.index c.ones_in-before.result c.word_near-own.result =
-    record { small = λ i. (c.type_inv.bytes i).fits; words = c.ones_in-before.ensures; word = c.word_near-own.ensures } in
-    below-some counted
-
-pub overflow_cast-ones : goal.overflow_cast-ones
-overflow_cast-ones c =
-    let counted : RankSo c.args.bytes.now c.args.bit.index c.ones_in-before.result c.word_near-own.result =
-    record { small = λ i. (c.type_inv.bytes i).fits; words = c.ones_in-before.ensures; word = c.word_near-own.ensures } in
-    omega (arith, rank-few counted, c.if-len-gt-MOST_BYTES.false, c.if-len-index.false)
-
 pub overflow_add-ones : goal.overflow_add-ones
 overflow_add-ones c =
-    let counted : RankSo c.args.bytes.now c.args.bit.index c.ones_in-before.result c.word_near-own.result =
-    record { small = λ i. (c.type_inv.bytes i).fits; words = c.ones_in-before.ensures; word = c.word_near-own.ensures } in
-    omega (arith, rank-few counted, c.if-len-gt-MOST_BYTES.false, c.if-len-index.false)
+    let few = rank-few c.args.bytes.now c.args.bit.index (λ i. (c.type_inv.bytes i).fits) c.ones_in-before.ensures c.word_near-own.ensures in
+    omega (arith, few, c.if-len-gt-MOST_BYTES.false, c.if-len-index.false)
 
 pub returns : goal.returns
 returns c =
-    let counted : RankSo c.args.bytes.now c.args.bit.index c.ones_in-before.result c.word_near-own.result =
-    record { small = λ i. (c.type_inv.bytes i).fits; words = c.ones_in-before.ensures; word = c.word_near-own.ensures } in
-    ap (λ (n : ℕ). given n) (rank-counted counted)
+    ap (λ (n : ℕ). given n) (rank-counted c.args.bytes.now c.args.bit.index (λ i. (c.type_inv.bytes i).fits) c.ones_in-before.ensures c.word_near-own.ensures)
     ∙ sym (rank-within c.args.bytes.now c.args.bit.index c.if-len-gt-MOST_BYTES.false c.if-len-index.false)

@@ -1,5 +1,6 @@
 -- `select` passes stretches of 8 words, and finds the bit in the one that holds it (`SelectSo`). Assumes nothing.
-use mathlib.Core.Path.{sym, ap, ◌∙◌}
+use Prim.Native.Nat.{◌+◌, ◌*◌}
+use mathlib.Core.Path.{◌≡◌, sym, ap, ◌∙◌}
 use native.Mathlib.Omega.{arith}
 use Rattle.meaning.specs.Says.{says_by, bit_told}
 use Rattle.bits.proofs.Asked.{select-long}
@@ -9,43 +10,27 @@ use Rattle.bits.proofs.select.Goals as goal
 pub returns-then-len-gt-MOST_BYTES : goal.returns-then-len-gt-MOST_BYTES
 returns-then-len-gt-MOST_BYTES c = sym (select-long c.args.bytes.now c.args.k (omega (arith, c.if-len-gt-MOST_BYTES.true)))
 
-pub loop-byte-init : goal.loop-byte-init
-loop-byte-init c = select-start c.if-len-gt-MOST_BYTES.false
-
-pub ones_in-ones-requires : goal.ones_in-ones-requires
-ones_in-ones-requires c = let so = c.loop-byte.invariant in omega (arith, so.short, so.near)
-
-pub one_in-requires : goal.one_in-requires
-one_in-requires c =
-    let so = c.loop-byte.invariant in
-    omega (arith, so.short, so.near)
+pub loop-stretch-init : goal.loop-stretch-init
+loop-stretch-init c = select-start c.if-len-gt-MOST_BYTES.false
 
 -- a stretch with enough ones holds the one that is looked for
 pub returns-in_err-bit : goal.returns-in_err-bit
 returns-in_err-bit c =
-    absurd (select-holds c.loop-byte.invariant c.ones_in-ones.ensures c.if-left-ones.true
+    absurd (select-holds c.loop-stretch.invariant c.ones_in-ones.ensures c.if-left-ones.true
     (sym c.one_in.ensures ∙ ap (says_by bit_told) c.in_err-bit.was))
-
-pub overflow_mul-index : goal.overflow_mul-index
-overflow_mul-index c =
-    let so = c.loop-byte.invariant in
-    omega (arith, so.short, so.near)
 
 pub overflow_add-index : goal.overflow_add-index
 overflow_add-index c =
-    let so = c.loop-byte.invariant in
+    let so = c.loop-stretch.invariant in
     omega (arith, so.short, select-inside so (sym c.one_in.ensures ∙ ap (says_by bit_told) c.in_ok-bit.was))
 
 pub returns-then-left-ones : goal.returns-then-left-ones
-returns-then-left-ones c = select-found c.loop-byte.invariant (sym c.one_in.ensures ∙ ap (says_by bit_told) c.in_ok-bit.was)
+returns-then-left-ones c = select-found c.loop-stretch.invariant (sym c.one_in.ensures ∙ ap (says_by bit_told) c.in_ok-bit.was)
 
-pub overflow_add-byte : goal.overflow_add-byte
-overflow_add-byte c =
-    let so = c.loop-byte.invariant in
-    omega (arith, so.short, so.near)
-
-pub loop-byte-preserved : goal.loop-byte-preserved
-loop-byte-preserved c = select-turn c.loop-byte.invariant c.loop-byte-test.true c.ones_in-ones.ensures c.if-left-ones.false
+pub loop-stretch-preserved : goal.loop-stretch-preserved
+loop-stretch-preserved c =
+    let next : 64 * (c.loop-stretch.stretch + 1) ≡ 64 * c.loop-stretch.stretch + 64 = omega arith in
+    rw next (select-turn c.loop-stretch.invariant (omega (arith, c.loop-stretch-test.true)) c.ones_in-ones.ensures c.if-left-ones.false)
 
 pub returns : goal.returns
-returns c = select-end c.loop-byte.invariant c.loop-byte-test.false
+returns c = select-end c.loop-stretch.invariant (omega (arith, c.loop-stretch-test.false))

@@ -1,28 +1,8 @@
 -- The bits that hold the one are halved until one is left (`HalfSo`). Assumes nothing.
 use native.Mathlib.Omega.{arith}
-use Rattle.bits.proofs.Halves.{half-start, halved, mask-some, half-few, half-lower, half-upper, half-end}
+use Rattle.bits.proofs.Halves.{halved, half-lower, half-upper, half-end}
 use Rattle.bits.proofs.words_of.bit_in.Goals.{then-ones-left, else-ones-left}
 use Rattle.bits.proofs.words_of.bit_in.Goals as goal
-
-pub loop-half-init : goal.loop-half-init
-loop-half-init c = half-start c.requires
-
-pub overflow_shl-low : goal.overflow_shl-low
-overflow_shl-low c = omega (arith, (halved c.loop-half.invariant c.loop-half-test.true).inside)
-
-pub nonzero_rem-low : goal.nonzero_rem-low
-nonzero_rem-low c = mask-some (halved c.loop-half.invariant c.loop-half-test.true)
-
-pub overflow_cast-ones : goal.overflow_cast-ones
-overflow_cast-ones c =
-    let so = halved c.loop-half.invariant c.loop-half-test.true in
-    omega (arith, half-few so, so.inside)
-
-pub overflow_add-bit : goal.overflow_add-bit
-overflow_add-bit c = omega (arith, (halved c.loop-half.invariant c.loop-half-test.true).inside)
-
-pub overflow_shr-rest : goal.overflow_shr-rest
-overflow_shr-rest c = omega (arith, (halved c.loop-half.invariant c.loop-half-test.true).inside)
 
 pub loop-half-preserved : goal.loop-half-preserved
 loop-half-preserved c =
@@ -33,4 +13,4 @@ loop-half-preserved c =
     ]
 
 pub returns : goal.returns
-returns c = half-end c.loop-half.invariant c.loop-half-test.false
+returns c = half-end c.loop-half.invariant (omega (arith, c.loop-half-test.false))

@@ -1,13 +1,10 @@
 -- The words are counted one by one (`CountSo`). Assumes nothing.
 use native.Mathlib.Omega.{arith}
-use Rattle.bits.proofs.Counts.{count-start, count-few, word-few, count_turn, count-end}
+use Rattle.bits.proofs.Counts.{count-start, count-few, word-few, count_turn}
 use Rattle.bits.proofs.words_of.ones_in.Goals as goal
 
 pub loop-i-init : goal.loop-i-init
 loop-i-init c = count-start (λ i. (c.type_inv.bytes i).fits) c.requires
-
-pub overflow_cast-ones : goal.overflow_cast-ones
-overflow_cast-ones c = omega (arith, word-few c.loop-i.invariant c.loop-i-test.true c.word_near-word.ensures)
 
 pub overflow_add-ones : goal.overflow_add-ones
 overflow_add-ones c =
@@ -16,6 +13,3 @@ overflow_add-ones c =
 
 pub loop-i-preserved : goal.loop-i-preserved
 loop-i-preserved c = count_turn c.loop-i.invariant c.loop-i-test.true c.word_near-word.ensures
-
-pub returns : goal.returns
-returns c = count-end c.loop-i.invariant c.loop-i-test.false

@@ -1,6 +1,5 @@
 -- Each byte, from the end on, goes below those behind it (`EndSo`). Assumes nothing.
 use Prim.Native.Nat.{◌-◌}
-use mathlib.Core.Path.{refl}
 use native.Mathlib.Omega.{arith}
 use Rattle.bits.proofs.Ends.{end-start, end_fits, end-turn, end-end}
 use Rattle.bits.proofs.words_of.word_end.Goals as goal
@@ -11,14 +10,11 @@ loop-i-init c = end-start c.args.bytes.now c.args.at.byte c.requires
 pub overflow_mul-x : goal.overflow_mul-x
 overflow_mul-x c = omega (arith, end_fits c.loop-i.invariant c.loop-i-test.true)
 
-pub overflow_cast-x : goal.overflow_cast-x
-overflow_cast-x c = omega (arith, c.type_inv.bytes (c.loop-i.i - 1))
-
 pub overflow_add-x : goal.overflow_add-x
 overflow_add-x c = omega (arith, end_fits c.loop-i.invariant c.loop-i-test.true, c.type_inv.bytes (c.loop-i.i - 1))
 
 pub loop-i-preserved : goal.loop-i-preserved
-loop-i-preserved c = end-turn c.loop-i.invariant c.loop-i-test.true (c.type_inv.bytes (c.loop-i.i - 1)).fits refl
+loop-i-preserved c = end-turn c.loop-i.invariant c.loop-i-test.true (omega arith) c.from.ensures
 
 pub returns : goal.returns
 returns c = end-end c.loop-i.invariant c.loop-i-test.false

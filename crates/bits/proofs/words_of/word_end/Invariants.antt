@@ -3,7 +3,4 @@ use Rattle.bits.proofs.Ends.{EndSo}
 use Rattle.bits.proofs.words_of.word_end.Given as goal
 
 abbrev pub invariant-loop-i : goal.invariant-loop-i
-invariant-loop-i l = EndSo l.bytes l.start l.i l.x
-
-abbrev pub decreases-loop-i : goal.decreases-loop-i
-decreases-loop-i l = l.i
+invariant-loop-i l = EndSo l.bytes l.i-start l.i l.x
