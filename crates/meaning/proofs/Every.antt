@@ -1,0 +1,33 @@
+-- A test of all elements, as an iterator's `all` answers it. Assumes nothing.
+use Prim.Native.Nat.{ℕ, zero, suc, ◌≤◌, ◌<◌}
+use mathlib.Core.Path.{◌≡◌, refl, sym, ◌∙◌}
+use mathlib.Core.Bool.{Bool, true, false, ◌&&◌}
+use mathlib.Core.List.{List, [], ◌∷◌}
+use native.Mathlib.Omega.{arith}
+use lib.ListN.{length, get_or}
+use Rattle.std.specs.Bool.{MatchBool}
+use Rattle.std.specs.List.{AllWithin, HoldsAt}
+use Rattle.meaning.specs.Lists.{all}
+
+behind : (a b : Bool) → false ≡ b → false ≡ a && b
+behind true b h = h
+behind false b h = refl
+
+module _ {A : Type 0} (test : A → Bool) where
+  -- each holds
+  pub all-true : (xs : List A) → AllWithin (λ x. test x ≡ true) xs 0 (length xs) → true ≡ all test xs
+  unfolding all
+  all-true [] h = refl
+  all-true (x ∷ xs) h = rw (h 0 x (omega arith) (omega arith)) (all-true xs (λ k d l m. h (suc k) d (omega arith) (omega arith)))
+
+  -- one does not
+  pub all-false : (xs : List A) (k : ℕ) → k < length xs → HoldsAt (λ x. test x ≡ false) xs k → false ≡ all test xs
+  unfolding all
+  all-false [] k l h = absurd (omega arith)
+  all-false (x ∷ xs) zero l h = rw (h x)
+  all-false (x ∷ xs) (suc k) l h = behind (test x) (all test xs) (all-false xs k (omega arith) (λ d. h d))
+
+  pub all-told : (xs : List A) (r : Bool)
+      → MatchBool r (AllWithin (λ x. test x ≡ true) xs 0 (length xs)) ((k : ℕ) × (k < length xs) × HoldsAt (λ x. test x ≡ false) xs k) → r ≡ all test xs
+  all-told xs true h = all-true xs h
+  all-told xs false h = all-false xs h.0 h.1 h.2
