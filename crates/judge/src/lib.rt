@@ -14,7 +14,7 @@ pub mod stage;
 pub mod tree;
 
 // So many stages may stand over a code: depth 4, the code counting 1.
-const MOST_STAGES: usize = 3;
+pub const MOST_STAGES: usize = 3;
 
 // Whether every byte from an offset on is 0.
 pub fn blank_from(plan: &[u8], at: Offset) -> bool

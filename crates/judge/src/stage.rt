@@ -23,6 +23,7 @@ fn is_code(b: u8) -> bool
 }
 
 // Any offset may be asked for: past the end nothing stands.
+// kept: the bytes, an offset and the stages that may come stand side by side, since a struct of the three would be made anew at every stage.
 pub fn stage_at(plan: &[u8], at: Offset, stages: usize) -> Stage
     ensures { result ≡ stage_at stages plan.now at.byte }
 {

@@ -10,6 +10,7 @@ use crate::stage::{Stage, plan_end, stage_at};
 use meaning::{ANY, Offset, RISING};
 
 // Where it ends, if it is well formed up to there.
+// kept beside `plan_end`: a malformed plan ends too, and its worst size goes by that.
 pub fn good_end(plan: &[u8], at: Offset, stages: usize) -> Option<Offset>
     ensures { result ≡ good_end (plan_at stages plan.now at.byte) at.byte }
 {

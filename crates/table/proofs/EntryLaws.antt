@@ -1,19 +1,31 @@
 -- What the functions over entries answer, over plain variables. Assumes nothing.
 use Prim.Native.Nat.{ℕ, ◌+◌, ◌*◌, ◌^◌, ◌≤◌, ◌<◌, max}
-use mathlib.Core.Path.{◌≡◌, ap, ◌∙◌}
+use mathlib.Core.Path.{◌≡◌, sym, ap, ◌∙◌}
 use mathlib.Core.List.{List, [], map}
 use native.Mathlib.Numerals.{add-one}
 use native.Mathlib.Omega.{arith}
-use lib.ListN.{length, drop, drop_of_length-le}
+use lib.ListN.{length, get_or, drop, drop_of_length-le}
 use Rattle.meaning.specs.Answer.{passed}
+use Rattle.meaning.specs.Bytes.{word_at}
 use Rattle.meaning.specs.Limits.{number_limit}
 use Rattle.meaning.specs.Lists.{largest}
-use Rattle.meaning.specs.Sheet.{Column, edition_of, column_count, table_size, columns_of, column_at, sound, largest_count}
+use Rattle.meaning.specs.Sheet.{Column, count_in, size_in, edition_of, column_count, table_size, columns_of, column_at, sound, largest_count}
 use Rattle.table.specs.Offsets.{slot_of, sizes_before, body_offset, blank_column}
-use Rattle.table.proofs.Columns.{size_is, Counted, one-of-them, past-them}
+use Rattle.table.proofs.Columns.{kind-is, count-is, size_is, size-in, Counted, one-of-them, past-them}
 use Rattle.table.proofs.Lists.{largest-next}
 use Rattle.table.proofs.Slots.{slot_small}
 use Rattle.table.proofs.Sounds.{sound-table}
+
+-- ---- the fields of an entry, from where it begins
+module _ (sheet : List ℕ) (k : ℕ) (h : k < column_count sheet) {b : ℕ} (is : b ≡ slot_of sheet k) where
+  pub kind-here : get_or sheet b 0 ≡ (column_at sheet k).kind
+  kind-here = ap (λ (j : ℕ). get_or sheet j 0) is ∙ sym (kind-is sheet k h)
+
+  pub count-here : word_at sheet (b + count_in) ≡ (column_at sheet k).count
+  count-here = ap (λ (j : ℕ). word_at sheet (j + count_in)) is ∙ sym (count-is sheet k h)
+
+  pub size-here : word_at sheet (b + size_in) ≡ (column_at sheet k).size
+  size-here = ap (λ (j : ℕ). word_at sheet (j + size_in)) is ∙ sym (size_is sheet k h ∙ size-in sheet k h)
 
 -- ---- where a body begins: the bodies below k are passed
 pub record BodySo (sheet : List ℕ) (column at k : ℕ) : Type 0 where
