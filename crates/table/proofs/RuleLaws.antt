@@ -2,6 +2,7 @@
 use Prim.Native.Nat.{ℕ, ◌+◌, ◌≤◌, ◌<◌}
 use mathlib.Core.Path.{◌≡◌, sym, ap, ap₂, ◌∙◌}
 use mathlib.Core.Bool.{Bool, true, false}
+use mathlib.Core.Logic.{◌⊎◌, inl, inr}
 use mathlib.Core.List.{List, map}
 use native.Mathlib.Omega.{arith}
 use lib.Dec.{leb, eqb}
@@ -32,15 +33,12 @@ module _ (edition : ℕ) where
 
 -- ---- whether it is a sheet
 module _ (sheet : List ℕ) where
-  pub too_short : length sheet < 2 → false ≡ is_sheet sheet
+  pub other-size : (length sheet < 2) ⊎ ((2 ≤ length sheet) × (most_bytes < length sheet)) → false ≡ is_sheet sheet
   unfolding is_sheet
-  too_short h = rw (lt-leb 2 (length sheet) h)
+  other-size (inl h) = rw (lt-leb 2 (length sheet) h)
+  other-size (inr h) = rw (le-leb 2 (length sheet) h.0, lt-leb (length sheet) most_bytes h.1)
 
   module _ (least : 2 ≤ length sheet) where
-    pub too_long : most_bytes < length sheet → false ≡ is_sheet sheet
-    unfolding is_sheet
-    too_long h = rw (le-leb 2 (length sheet) least, lt-leb (length sheet) most_bytes h)
-
     module _ (most : length sheet ≤ most_bytes) where
       module _ {e : ℕ} (is : e ≡ edition_of sheet) {t : Bool} (known : t ≡ is_edition e) where
         pub other-edition : t ≡ false → false ≡ is_sheet sheet

@@ -1,15 +1,10 @@
 -- `is_sheet` asks in the definition's order. Assumes nothing.
 use mathlib.Core.Path.{◌∙◌}
-use Rattle.table.proofs.RuleLaws.{too_short, too_long, other-edition, by_count}
+use Rattle.table.proofs.RuleLaws.{other-size, other-edition, by_count}
 use Rattle.table.proofs.rules.is_sheet.Goals as goal
-use Rattle.table.proofs.rules.is_sheet.Goals.{then-sheet-lt2-via-then-sheet-lt2, then-sheet-lt2-via-else-sheet-lt2+then-sheet-gt-MOST_BYTES}
 
 pub returns-then-sheet-lt2 : goal.returns-then-sheet-lt2
-returns-then-sheet-lt2 c =
-    elim c.then-sheet-lt2.branch [
-      | then-sheet-lt2-via-then-sheet-lt2 w ↦ too_short c.args.sheet.now w.if-sheet-lt2.true
-      | then-sheet-lt2-via-else-sheet-lt2+then-sheet-gt-MOST_BYTES w ↦ too_long c.args.sheet.now w.if-sheet-lt2.false w.if-sheet-gt-MOST_BYTES.true
-    ]
+returns-then-sheet-lt2 c = other-size c.args.sheet.now c.then-sheet-lt2.either
 
 pub returns-then-is_edition : goal.returns-then-is_edition
 returns-then-is_edition c =
