@@ -1,5 +1,5 @@
 -- A test of all elements, as an iterator's `all` answers it. Assumes nothing.
-use Prim.Native.Nat.{ℕ, zero, suc, ◌≤◌, ◌<◌}
+use Prim.Native.Nat.{ℕ, zero, suc, ◌<◌}
 use mathlib.Core.Path.{◌≡◌, refl, ap, ◌∙◌, subst}
 use mathlib.Core.Bool.{Bool, true, false, ◌&&◌}
 use mathlib.Core.List.{List, [], ◌∷◌}
@@ -48,7 +48,9 @@ module _ {A : Type 0} (test : A → Bool) (xs : List A) (d : A) where
       ((k : ℕ) × (k < length (range_with_len 0 n)) × HoldsAt (Place false) (range_with_len 0 n) k)
       → r ≡ all test xs
   all-places n true e h =
-      all-true test xs (λ k z o m. ap test (get_or_default xs k z d m) ∙ subst (Place true) (nth n k (omega arith)) (h k 0 o (omega (arith, length-range_with_len 0 n))))
+      all-true test xs
+      (λ k z o m.
+      ap test (get_or_default xs k z d m) ∙ subst (Place true) (nth n k (omega arith)) (h k 0 o (omega (arith, length-range_with_len 0 n))))
   all-places n false e (k, l, h) =
       let m : k < n = omega (arith, length-range_with_len 0 n) in
       all-false test xs k (omega arith) (λ z. ap test (get_or_default xs k z d (omega arith)) ∙ subst (Place false) (nth n k m) (h 0))
