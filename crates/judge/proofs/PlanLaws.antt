@@ -1,7 +1,8 @@
 -- What stands at an offset of the plan bytes says which plan begins there. The bytes meet the tree only here: the other proofs cite the five laws
 -- at the end. Assumes nothing.
 use Prim.Native.Nat.{ℕ, zero, suc, ◌+◌, ◌-◌, ◌<◌}
-use mathlib.Core.Path.{◌≡◌, refl, ap, ◌∙◌, subst}
+use mathlib.Core.Path.{◌≡◌, refl, sym, ap, ◌∙◌, subst}
+use mathlib.Core.Logic.{◌⊎◌, inl, inr}
 use mathlib.Core.Bool.{Bool, true, false, ◌&&◌, cond}
 use mathlib.Core.List.{List}
 use native.Mathlib.Numerals.{sub-one}
@@ -10,7 +11,7 @@ use lib.Dec.{leb, eqb}
 use lib.ListN.{length, get_or, get_or-eq_default}
 use borrow.Author.Tests.{leb-true}
 use Rattle.meaning.specs.Codes.{is_code}
-use Rattle.meaning.specs.Plan.{Plan, bad, code, reference, differences, runs, plan_size, plan_by, plan_at}
+use Rattle.meaning.specs.Plan.{Plan, bad, code, reference, differences, runs, good, plan_size, plan_by, plan_at}
 use Rattle.meaning.specs.declared.Offset.{Offset}
 use Rattle.meaning.proofs.Tests.{by_order, both_true}
 use Rattle.judge.specs.Stage.{stage_at}
@@ -114,6 +115,23 @@ module _ (stages : ℕ) (bytes : List ℕ) (at : ℕ) where
       → (plan_at stages bytes at ≡ runs (plan_at l bytes x.byte) (plan_at l bytes (x.byte + plan_size (plan_at l bytes x.byte))))
       × (stages ≡ suc l) × (x.byte ≡ at + 1)
   at-runs x l e = let (p, (i, k)) = told (Runs x l) e in (p, i, k)
+
+-- a stage over one plan, of either sort: what is known of that plan
+pub record Over (stages : ℕ) (bytes : List ℕ) (at : ℕ) (x : Offset) (l : ℕ) : Type 0 where
+  pub size : plan_size (plan_at stages bytes at) ≡ 1 + plan_size (plan_at l bytes x.byte)
+  pub good : good (plan_at stages bytes at) ≡ good (plan_at l bytes x.byte)
+  pub fewer : stages ≡ suc l
+  pub next : x.byte ≡ at + 1
+
+pub over : {stages : ℕ} {bytes : List ℕ} {at : ℕ} {x : Offset} {l : ℕ} {s : Stage} → s ≡ stage_at stages bytes at
+    → (s ≡ Reference x l) ⊎ (s ≡ Differences x l) → Over stages bytes at x l
+unfolding plan_size good
+over is (inl e) =
+    let (p, f, n) = at-reference _ _ _ _ _ (sym is ∙ e) in
+    record { size = ap plan_size p; good = ap good p; fewer = f; next = n }
+over is (inr e) =
+    let (p, f, n) = at-differences _ _ _ _ _ (sym is ∙ e) in
+    record { size = ap plan_size p; good = ap good p; fewer = f; next = n }
 
 -- what is said of the plan at the end of the first inner plan is said of the second inner plan
 pub second {ℓ} : {X : Type ℓ} (F : Plan → X) (l : ℕ) (bytes : List ℕ) (x m : ℕ) → m ≡ x + plan_size (plan_at l bytes x)

@@ -33,39 +33,38 @@ module _ (stages : ℕ) (bytes : List ℕ) (at : ℕ) where
   unfolding stage_at
   stage-end k = rw (get_or-eq_default bytes 0 k) (nothing (leb 1 stages) (record { byte = at + 1 }) (stages - 1))
 
-  module _ (t : Bool) (told : t ≡ is_code (get_or bytes at 0)) where
-    pub stage_code : t ≡ true → Code (get_or bytes at 0) ≡ stage_at stages bytes at
+  module _ {b : ℕ} (is : b ≡ get_or bytes at 0) (t : Bool) (told : t ≡ is_code b) where
+    pub stage_code : t ≡ true → Code b ≡ stage_at stages bytes at
     unfolding stage_at
-    stage_code f = let h : is_code (get_or bytes at 0) ≡ true = sym told ∙ f in rw h
+    stage_code f = let h : is_code b ≡ true = sym told ∙ f in rw (← is, h)
 
     module _ (f : t ≡ false) where
-      no_code : is_code (get_or bytes at 0) ≡ false
+      no_code : is_code b ≡ false
       no_code = sym told ∙ f
 
       pub stage-none : stages ≡ 0 → Bad ≡ stage_at stages bytes at
       unfolding stage_at
-      stage-none z = rw (no_code, z)
+      stage-none z = rw (← is, no_code, z)
 
       module _ (some : stages ≡ 0 → ⊥) where
         more : leb 1 stages ≡ true
         more = le-leb 1 stages (omega arith)
 
-        pub stage-16 : get_or bytes at 0 ≡ 16 → Reference (record { byte = at + 1 }) (stages - 1) ≡ stage_at stages bytes at
+        pub stage-16 : b ≡ 16 → Reference (record { byte = at + 1 }) (stages - 1) ≡ stage_at stages bytes at
         unfolding stage_at is_code
-        stage-16 e = rw (e, more)
+        stage-16 e = rw (← is, e, more)
 
-        pub stage-17 : get_or bytes at 0 ≡ 17 → Differences (record { byte = at + 1 }) (stages - 1) ≡ stage_at stages bytes at
+        pub stage-17 : b ≡ 17 → Differences (record { byte = at + 1 }) (stages - 1) ≡ stage_at stages bytes at
         unfolding stage_at is_code
-        stage-17 e = rw (e, more)
+        stage-17 e = rw (← is, e, more)
 
-        pub stage-18 : get_or bytes at 0 ≡ 18 → Runs (record { byte = at + 1 }) (stages - 1) ≡ stage_at stages bytes at
+        pub stage-18 : b ≡ 18 → Runs (record { byte = at + 1 }) (stages - 1) ≡ stage_at stages bytes at
         unfolding stage_at is_code
-        stage-18 e = rw (e, more)
+        stage-18 e = rw (← is, e, more)
 
-        pub stage-else : (get_or bytes at 0 ≡ 16 → ⊥) → (get_or bytes at 0 ≡ 17 → ⊥) → (get_or bytes at 0 ≡ 18 → ⊥) → Bad ≡ stage_at stages bytes at
+        pub stage-else : (b ≡ 16 → ⊥) → (b ≡ 17 → ⊥) → (b ≡ 18 → ⊥) → Bad ≡ stage_at stages bytes at
         unfolding stage_at
-        stage-else h₁₆ h₁₇ h₁₈ =
-            rw (no_code, more, ne_eqb (get_or bytes at 0) 16 h₁₆, ne_eqb (get_or bytes at 0) 17 h₁₇, ne_eqb (get_or bytes at 0) 18 h₁₈)
+        stage-else h₁₆ h₁₇ h₁₈ = rw (← is, no_code, more, ne_eqb b 16 h₁₆, ne_eqb b 17 h₁₇, ne_eqb b 18 h₁₈)
 
 -- where the second inner plan ends, by way of where the first does
 pub two_ends : (l : ℕ) (bytes : List ℕ) (x m r : ℕ) → m ≡ x + plan_size (plan_at l bytes x) → r ≡ m + plan_size (plan_at l bytes m)

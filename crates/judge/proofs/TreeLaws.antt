@@ -6,13 +6,16 @@ use mathlib.Core.List.{List}
 use native.Mathlib.Omega.{arith}
 use lib.Dec.{leb, eqb}
 use lib.ListN.{get_or}
+use Rattle.std.specs.Prelude.{Option, Some, None}
 use Rattle.meaning.specs.Codes.{is_code, code_of, worst_groups}
 use Rattle.meaning.specs.Direct.{worst_direct}
 use Rattle.meaning.specs.Groups.{group_count}
 use Rattle.meaning.specs.Limits.{most_numbers, most_stages}
 use Rattle.meaning.specs.Plan.{Plan, bad, code, reference, differences, runs, good, plan_size, plan_at, worst_plan}
+use Rattle.meaning.specs.declared.Offset.{Offset}
 use Rattle.meaning.proofs.Codes.{by_code, by_number}
 use Rattle.judge.specs.Stage.{good_end}
+use Rattle.judge.proofs.PlanLaws.{Over}
 
 -- ---- a test in two turns
 pub and_both : (r s a b : Bool) → r ≡ a → r ≡ true → s ≡ b → s ≡ a && b
@@ -21,83 +24,65 @@ and_both r s a b e t f = let h : a ≡ true = sym e ∙ t in rw h f
 pub and-not : (r a b : Bool) → r ≡ a → r ≡ false → false ≡ a && b
 and-not r a b e t = let h : a ≡ false = sym e ∙ t in rw h
 
--- ---- where a good plan ends; 0 is no end
-pub end-bad : (P : Plan) (at : ℕ) → P ≡ bad → 0 ≡ good_end P at
+-- ---- where a good plan ends
+abbrev end_at : ℕ → Option Offset
+end_at k = Some (record { byte = k })
+
+pub end-bad : (P : Plan) (at : ℕ) → P ≡ bad → None ≡ good_end P at
 unfolding good_end good
 end-bad P at e = rw e
 
-pub end-code : (P : Plan) (at c : ℕ) → P ≡ code c → at + 1 ≡ good_end P at
+pub end-code : (P : Plan) (at c : ℕ) → P ≡ code c → end_at (at + 1) ≡ good_end P at
 unfolding good_end good plan_size
 end-code P at c e = rw e
 
 -- one byte before a plan, which is good where the plan is
-one_more : (g : Bool) (x at s r : ℕ) → x ≡ at + 1 → r ≡ cond g (x + s) 0 → r ≡ cond g (at + (1 + s)) 0
-one_more true x at s r e h = omega arith
-one_more false x at s r e h = h
+pub end-over : {stages : ℕ} {bytes : List ℕ} {at : ℕ} {x : Offset} {l : ℕ} {r : Option Offset}
+    → Over stages bytes at x l → r ≡ good_end (plan_at l bytes x.byte) x.byte → r ≡ good_end (plan_at stages bytes at) at
+unfolding good_end
+end-over {stages} {bytes} {at} {x} {l} o h =
+    let k : at + plan_size (plan_at stages bytes at) ≡ x.byte + plan_size (plan_at l bytes x.byte) = omega (arith, o.size, o.next) in
+    h ∙ rw (o.good, k)
 
-pub end-reference : (P p : Plan) (x at r : ℕ) → P ≡ reference p → x ≡ at + 1 → r ≡ good_end p x → r ≡ good_end P at
-unfolding good_end good plan_size
-end-reference P p x at r e i h = rw e (one_more (good p) x at (plan_size p) r i h)
+-- what a plan's end says of it
+no_end : (g : Bool) (k : ℕ) → None ≡ cond g (end_at k) None → g ≡ false
+no_end true k h = cc
+no_end false k h = refl
 
-pub end-differences : (P p : Plan) (x at r : ℕ) → P ≡ differences p → x ≡ at + 1 → r ≡ good_end p x → r ≡ good_end P at
-unfolding good_end good plan_size
-end-differences P p x at r e i h = rw e (one_more (good p) x at (plan_size p) r i h)
+an-end : (g : Bool) (k : ℕ) {m : Offset} → Some m ≡ cond g (end_at k) None → (g ≡ true) × (m.byte ≡ k)
+an-end true k {m} h = let e : m ≡ record { byte = k } = cc in (refl, ap (λ (o : Offset). o.byte) e)
+an-end false k h = cc
+
+module _ (p : Plan) (at : ℕ) where
+  pub good_none : None ≡ good_end p at → good p ≡ false
+  unfolding good_end
+  good_none h = no_end (good p) (at + plan_size p) h
+
+  pub good-ends : {m : Offset} → Some m ≡ good_end p at → (good p ≡ true) × (m.byte ≡ at + plan_size p)
+  unfolding good_end
+  good-ends h = an-end (good p) (at + plan_size p) h
 
 -- two plans: the first is not good, or it ends where the second begins
-none : (g k : Bool) (x at s t m : ℕ) → x ≡ at + 1 → m ≡ cond g (x + s) 0 → m ≡ 0 → m ≡ cond (g && k) t 0
-none true k x at s t m e h z = absurd (omega arith)
-none false k x at s t m e h z = h
+pub end-first : (P p q : Plan) (x at : ℕ) → P ≡ runs p q → None ≡ good_end p x → None ≡ good_end P at
+unfolding good_end good
+end-first P p q x at e h = rw (e, good_none p x h)
 
-pub end-first : (P p q : Plan) (x at m : ℕ) → P ≡ runs p q → x ≡ at + 1 → m ≡ good_end p x → m ≡ 0 → m ≡ good_end P at
-unfolding good_end good plan_size
-end-first P p q x at m e i h z = rw e (none (good p) (good q) x at (plan_size p) (at + (1 + (plan_size p + plan_size q))) m i h z)
-
-then : (H : ℕ → Bool) (S : ℕ → ℕ) (g : Bool) (x at s m r : ℕ) → x ≡ at + 1 → m ≡ cond g (x + s) 0 → (m ≡ 0 → ⊥) → r ≡ cond (H m) (m + S m) 0
-    → r ≡ cond (g && H (x + s)) (at + (1 + (s + S (x + s)))) 0
-then H S true x at s m r e h z f =
-    let k : x + s + S (x + s) ≡ at + (1 + (s + S (x + s))) = omega arith in
-    f ∙ ap (λ (j : ℕ). cond (H j) (j + S j) 0) h ∙ ap (λ (j : ℕ). cond (H (x + s)) j 0) k
-then H S false x at s m r e h z f = absurd (z h)
-
-pub end-second : (P : Plan) (l : ℕ) (bytes : List ℕ) (x at m r : ℕ)
+pub end-second : (P : Plan) (l : ℕ) (bytes : List ℕ) (x at : ℕ) {m : Offset} {r : Option Offset}
     → P ≡ runs (plan_at l bytes x) (plan_at l bytes (x + plan_size (plan_at l bytes x))) → x ≡ at + 1
-    → m ≡ good_end (plan_at l bytes x) x → (m ≡ 0 → ⊥) → r ≡ good_end (plan_at l bytes m) m → r ≡ good_end P at
+    → Some m ≡ good_end (plan_at l bytes x) x → r ≡ good_end (plan_at l bytes m.byte) m.byte → r ≡ good_end P at
 unfolding good_end good plan_size
-end-second P l bytes x at m r e i h z f =
-    let p = plan_at l bytes x in
-    rw e (then (λ k. good (plan_at l bytes k)) (λ k. plan_size (plan_at l bytes k)) (good p) x at (plan_size p) m r i h z f)
-
--- a good plan has a byte
-good-some : (p : Plan) → good p ≡ true → 1 ≤ plan_size p
-unfolding good plan_size
-good-some bad e = let z : ◌≡◌ {A = ℕ} 0 1 = cc in absurd (omega arith)
-good-some (code c) e = omega arith
-good-some (reference p) e = omega arith
-good-some (differences p) e = omega arith
-good-some (runs p q) e = omega arith
-
-no_end : (g : Bool) (s m : ℕ) → (g ≡ true → 1 ≤ s) → m ≡ cond g (0 + s) 0 → m ≡ 0 → g ≡ false
-no_end true s m h e z = let k = h refl in absurd (omega arith)
-no_end false s m h e z = refl
-
-an-end : (g : Bool) (s m : ℕ) → m ≡ cond g (0 + s) 0 → (m ≡ 0 → ⊥) → (g ≡ true) × (m ≡ s)
-an-end true s m e z = (refl, omega arith)
-an-end false s m e z = absurd (z e)
-
-pub good_none : (p : Plan) (m : ℕ) → m ≡ good_end p 0 → m ≡ 0 → good p ≡ false
-unfolding good_end
-good_none p m e z = no_end (good p) (plan_size p) m (good-some p) e z
-
-pub good-ends : (p : Plan) (m : ℕ) → m ≡ good_end p 0 → (m ≡ 0 → ⊥) → (good p ≡ true) × (m ≡ plan_size p)
-unfolding good_end
-good-ends p m e z = an-end (good p) (plan_size p) m e z
+end-second P l bytes x at {m} e i h f =
+    let (g, k) = good-ends (plan_at l bytes x) x h in
+    let q = λ (j : ℕ). plan_at l bytes j in
+    let n : m.byte + plan_size (q (x + plan_size (q x))) ≡ at + (1 + (plan_size (q x) + plan_size (q (x + plan_size (q x))))) = omega arith in
+    rw (e, g) (f ∙ ap (λ (j : ℕ). cond (good (q j)) (end_at (m.byte + plan_size (q j))) None) k
+    ∙ ap (λ (j : ℕ). cond (good (q (x + plan_size (q x)))) (end_at j) None) n)
 
 -- ---- the worst size of a code
-pub worst-else : (k n : ℕ) → (k ≡ 1 → ⊥) → (k ≡ 2 → ⊥) → (k ≡ 3 → ⊥) → (k ≡ 4 → ⊥) → (k ≡ 5 → ⊥) → (k ≡ 6 → ⊥) → (k ≡ 8 → ⊥)
-    → worst_groups n ≡ (code_of k).worst n
-worst-else k n h₁ h₂ h₃ h₄ h₅ h₆ h₈ =
+pub worst-else : (k n : ℕ) → (k ≡ 1 → ⊥) → (k ≡ 3 → ⊥) → (k ≡ 5 → ⊥) → (k ≡ 6 → ⊥) → (k ≡ 8 → ⊥) → worst_groups n ≡ (code_of k).worst n
+worst-else k n h₁ h₃ h₅ h₆ h₈ =
     by_number (λ d. worst_groups n ≡ d.worst n) k
-    (λ e. absurd (h₁ e)) (λ e. absurd (h₂ e)) (λ e. absurd (h₃ e)) (λ e. absurd (h₄ e)) (λ e. absurd (h₅ e)) (λ e. absurd (h₆ e)) refl (λ e. absurd (h₈ e))
+    (λ e. absurd (h₁ e)) (λ e. refl) (λ e. absurd (h₃ e)) (λ e. refl) (λ e. absurd (h₅ e)) (λ e. absurd (h₆ e)) refl (λ e. absurd (h₈ e))
 
 -- gamma has the largest
 code-most : (k n : ℕ) → n ≤ most_numbers → (code_of k).worst n ≤ 8320

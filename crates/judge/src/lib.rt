@@ -2,9 +2,7 @@
 #![tactic(auto)]
 
 ghost use Rattle.std.specs.Prelude.{◌≡◌, eqb, drop};
-ghost use Rattle.meaning.specs.Answer.{need};
 ghost use Rattle.meaning.specs.Promises.{Judges, Sizes};
-ghost use Rattle.meaning.specs.Limits.{bad_orders};
 ghost use Rattle.meaning.specs.Lists.{all};
 ghost use Rattle.meaning.specs.Plan.{well_formed, judge_plan};
 ghost use Rattle.meaning.specs.Says.{says};
@@ -16,20 +14,13 @@ pub mod stage;
 pub mod tree;
 
 // So many stages may stand over a code: depth 4, the code counting 1.
-const MOST_STAGES: usize = 3;
+pub const MOST_STAGES: usize = 3;
 
 // Whether every byte from an offset on is 0.
 pub fn blank_from(plan: &[u8], at: Offset) -> bool
     ensures { result ≡ all (eqb 0) (drop at.byte plan.now) }
 {
-    let mut i = at.byte;
-    while i < plan.len() {
-        if plan[i] != 0 {
-            return false;
-        }
-        i += 1;
-    }
-    true
+    plan.iter().skip(at.byte).all(|&b| b == 0)
 }
 
 // Whether a plan has its length, is good to its end and blank after it.
@@ -39,37 +30,23 @@ pub fn well_formed(plan: &[u8]) -> bool
     if plan.len() != PLAN_BYTES {
         return false;
     }
-    let start = Offset { byte: 0 };
-    let end = good_end(plan, start, MOST_STAGES);
-    if end.byte == 0 {
-        return false;
+    match good_end(plan, Offset { byte: 0 }, MOST_STAGES) {
+        Some(end) => blank_from(plan, end),
+        None => false,
     }
-    blank_from(plan, end)
 }
 
-// The judge's refusals in their order; whether the kind is known comes first.
-fn judge_when(known: bool, kind: u8, plan: &[u8]) -> Result<(), Refusal>
-    ensures { says result ≡ need known bad_orders (judge_plan kind plan.now) }
-{
-    let formed = well_formed(plan);
-    let passed = passes_plan(plan, Offset { byte: 0 }, MOST_STAGES, kind);
-    if !known {
-        return Err(Refusal::BadOrders);
-    }
-    if !formed {
-        return Err(Refusal::Malformed);
-    }
-    if !passed {
-        return Err(Refusal::Unfit);
-    }
-    Ok(())
-}
-
-// A plan judged for a kind that the caller knows.
+// A plan judged for a kind that the caller knows: malformed, then not passed.
 pub fn judge_plan(kind: u8, plan: &[u8]) -> Result<(), Refusal>
     ensures { says result ≡ judge_plan kind plan.now }
 {
-    judge_when(true, kind, plan)
+    if !well_formed(plan) {
+        Err(Refusal::Malformed)
+    } else if !passes_plan(plan, Offset { byte: 0 }, MOST_STAGES, kind) {
+        Err(Refusal::Unfit)
+    } else {
+        Ok(())
+    }
 }
 
 // The judge asked alone: a kind above 1 is refused first.
@@ -77,15 +54,17 @@ pub fn judge(kind: u8, plan: &[u8]) -> Result<(), Refusal>
     ensures { Judges kind plan.now result }
 {
     let known = kind <= RISING;
-    judge_when(known, kind, plan)
+    if !known {
+        return Err(Refusal::BadOrders);
+    }
+    judge_plan(kind, plan)
 }
 
 // The worst size asked alone: a malformed plan is refused, then n above 1,024.
 pub fn worst_size(plan: &[u8], n: usize) -> Result<usize, Refusal>
     ensures { Sizes plan.now n result }
 {
-    let sound = well_formed(plan);
-    if !sound {
+    if !well_formed(plan) {
         return Err(Refusal::Malformed);
     }
     if MOST_NUMBERS < n {

@@ -19,29 +19,24 @@ pub enum Stage {
 fn is_code(b: u8) -> bool
     ensures { result ≡ is_code b }
 {
-    if b < 1 {
-        return false;
-    }
-    b <= LAST_CODE
+    1 <= b && b <= LAST_CODE
 }
 
 // Any offset may be asked for: past the end nothing stands.
+// kept: the bytes, an offset and the stages that may come stand side by side, since a struct of the three would be made anew at every stage.
 pub fn stage_at(plan: &[u8], at: Offset, stages: usize) -> Stage
     ensures { result ≡ stage_at stages plan.now at.byte }
 {
-    let here = at.byte;
-    if plan.len() <= here {
+    let Some(&b) = plan.get(at.byte) else {
         return Stage::Bad;
-    }
-    let b = plan[here];
+    };
     if is_code(b) {
         return Stage::Code(b);
     }
     if stages == 0 {
         return Stage::Bad;
     }
-    let after = here + 1;
-    let next = Offset { byte: after };
+    let next = Offset { byte: at.byte + 1 };
     let less = stages - 1;
     match b {
         16 => Stage::Reference(next, less),
@@ -57,12 +52,10 @@ pub fn plan_end(plan: &[u8], at: Offset, stages: usize) -> Offset
 {
     match stage_at(plan, at, stages) {
         Stage::Bad => at,
-        Stage::Code(_) => {
-            let end = at.byte + 1;
-            Offset { byte: end }
+        Stage::Code(_) => Offset { byte: at.byte + 1 },
+        Stage::Reference(next, less) | Stage::Differences(next, less) => {
+            plan_end(plan, next, less)
         }
-        Stage::Reference(next, less) => plan_end(plan, next, less),
-        Stage::Differences(next, less) => plan_end(plan, next, less),
         Stage::Runs(next, less) => {
             let second = plan_end(plan, next, less);
             plan_end(plan, second, less)

@@ -9,23 +9,19 @@ ghost use Rattle.judge.specs.Stage.{good_end};
 use crate::stage::{Stage, plan_end, stage_at};
 use meaning::{ANY, Offset, RISING};
 
-// Where it ends, if it is well formed up to there; else 0, where no plan ends.
-pub fn good_end(plan: &[u8], at: Offset, stages: usize) -> Offset
-    ensures { result.byte ≡ good_end (plan_at stages plan.now at.byte) at.byte }
+// Where it ends, if it is well formed up to there.
+// kept beside `plan_end`: a malformed plan ends too, and its worst size goes by that.
+pub fn good_end(plan: &[u8], at: Offset, stages: usize) -> Option<Offset>
+    ensures { result ≡ good_end (plan_at stages plan.now at.byte) at.byte }
 {
     match stage_at(plan, at, stages) {
-        Stage::Bad => Offset { byte: 0 },
-        Stage::Code(_) => {
-            let end = at.byte + 1;
-            Offset { byte: end }
+        Stage::Bad => None,
+        Stage::Code(_) => Some(Offset { byte: at.byte + 1 }),
+        Stage::Reference(next, less) | Stage::Differences(next, less) => {
+            good_end(plan, next, less)
         }
-        Stage::Reference(next, less) => good_end(plan, next, less),
-        Stage::Differences(next, less) => good_end(plan, next, less),
         Stage::Runs(next, less) => {
-            let second = good_end(plan, next, less);
-            if second.byte == 0 {
-                return second;
-            }
+            let second = good_end(plan, next, less)?;
             good_end(plan, second, less)
         }
     }
@@ -39,20 +35,10 @@ pub fn passes_plan(plan: &[u8], at: Offset, stages: usize, kind: u8) -> bool
         Stage::Bad => false,
         Stage::Code(_) => true,
         Stage::Reference(next, less) => passes_plan(plan, next, less, kind),
-        Stage::Differences(next, less) => {
-            if kind == RISING {
-                passes_plan(plan, next, less, ANY)
-            } else {
-                false
-            }
-        }
+        Stage::Differences(next, less) => kind == RISING && passes_plan(plan, next, less, ANY),
         Stage::Runs(next, less) => {
-            if passes_plan(plan, next, less, kind) {
-                let second = plan_end(plan, next, less);
-                passes_plan(plan, second, less, ANY)
-            } else {
-                false
-            }
+            let second = plan_end(plan, next, less);
+            passes_plan(plan, next, less, kind) && passes_plan(plan, second, less, ANY)
         }
     }
 }
@@ -62,7 +48,7 @@ fn worst_groups(n: usize) -> usize
     requires { n ≤ most_numbers }
     ensures { result ≡ worst_groups n }
 {
-    4 * n + (n + 3) / 4
+    4 * n + n.div_ceil(4)
 }
 
 // Code 8: a header, a bit for each data byte, a sum for each full stretch of them, and the data.
@@ -70,7 +56,7 @@ fn worst_direct(n: usize) -> usize
     requires { n ≤ most_numbers }
     ensures { result ≡ worst_direct n }
 {
-    4 + (n + 1) / 2 + 2 * (n / 128) + 4 * n
+    4 + n.div_ceil(2) + 2 * (n / 128) + 4 * n
 }
 
 // The worst size of n numbers by a code.
@@ -80,11 +66,9 @@ pub fn worst_code(code: u8, n: usize) -> usize
 {
     match code {
         1 => 5 * n,
-        2 => worst_groups(n),
-        3 => (n + 1) / 2 * 9,
-        4 => worst_groups(n),
-        5 => (65 * n + 7) / 8,
-        6 => (43 * n + 7) / 8,
+        3 => n.div_ceil(2) * 9,
+        5 => (65 * n).div_ceil(8),
+        6 => (43 * n).div_ceil(8),
         8 => worst_direct(n),
         _ => worst_groups(n),
     }

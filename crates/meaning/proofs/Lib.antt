@@ -2,6 +2,7 @@
 pub mod Answers
 pub mod Tests
 pub mod Bounds
+pub mod Every
 pub mod Stores
 pub mod Ranks
 pub mod Same

@@ -4,7 +4,7 @@ use mathlib.Core.Path.{◌≡◌, refl, sym, ap, ◌∙◌}
 use mathlib.Core.Bool.{cond}
 use native.Mathlib.Omega.{arith}
 use Rattle.std.specs.Prelude.{eqb, Result, Ok, Err}
-use Rattle.meaning.specs.Answer.{Answer, given, refused, Verdict, passed, blamed}
+use Rattle.meaning.specs.Answer.{Verdict, passed, blamed}
 use Rattle.meaning.specs.Says.{refusal_number, says, says_by, bit_told, verdict_says, counted_says}
 use Rattle.meaning.specs.declared.Bit.{Bit}
 use Rattle.meaning.specs.declared.Fault.{Fault}

@@ -1,21 +1,19 @@
 -- What asking for a column and fetching its body answer, over plain variables. Assumes nothing.
-use Prim.Native.Nat.{ℕ, ◌+◌, ◌-◌, ◌≤◌, ◌<◌}
-use mathlib.Core.Path.{◌≡◌, refl, sym, ap, ap₂, ◌∙◌, subst}
+use Prim.Native.Nat.{ℕ, ◌≤◌, ◌<◌}
+use mathlib.Core.Path.{◌≡◌, refl, sym, ap, ap₂, ◌∙◌}
 use mathlib.Core.List.{List}
 use native.Mathlib.Omega.{arith}
 use lib.Dec.{ltb}
 use lib.ListN.{length, take, drop}
 use borrow.Author.Tests.{lt-ltb, le-ltb, ltb-true}
-use Rattle.std.specs.Prelude.{Result, Ok, Err}
 use Rattle.meaning.specs.Answer.{given, refused, need, Verdict, passed, blamed, after}
 use Rattle.meaning.specs.Limits.{plan_bytes, no_column}
 use Rattle.meaning.specs.Operations.{column, fetch}
+use Rattle.meaning.specs.Places.{part}
 use Rattle.meaning.specs.Sheet.{Column, columns_of, column_at, sound, column_count}
 use Rattle.meaning.proofs.Answers.{need-given, not-given}
 use Rattle.table.specs.Offsets.{plan_offset, body_offset, Within}
-use Rattle.table.specs.Entries.{Here, EntryIs, Opened, ColumnIs}
-use Rattle.meaning.specs.Says.{refusal_number}
-use Rattle.meaning.specs.declared.Refusal.{Refusal}
+use Rattle.table.specs.Entries.{Here, EntryIs, Opened}
 use Rattle.table.specs.declared.Entry.{Entry}
 use Rattle.table.proofs.Columns.{column-count, edition-is, plan-is, size_is, body_is, begins-so}
 use Rattle.table.proofs.Slots.{slot-within}
@@ -74,9 +72,6 @@ module _ (sheet : List ℕ) (k : ℕ) where
   unfolding fetch
   fetch-refused z e = rw e
 
-pub fetch-body : {sheet : List ℕ} {k : ℕ} {e : Entry} → Opened sheet k e
-    → fetch sheet k ≡ given (take (e.body.byte + e.size - e.body.byte) (drop e.body.byte sheet))
+pub fetch-body : {sheet : List ℕ} {k : ℕ} {e : Entry} {body : List ℕ} → Opened sheet k e → body ≡ part sheet e.body.byte e.size → fetch sheet k ≡ given body
 unfolding fetch
-fetch-body {sheet} {k} {e} o =
-    let size : e.body.byte + e.size - e.body.byte ≡ e.size = omega arith in
-    rw o.told (ap (λ (l : List ℕ). given l) (sym (ap (λ (i : ℕ). take i (drop e.body.byte sheet)) size ∙ o.entry.body)))
+fetch-body o is = rw o.told (ap (λ (l : List ℕ). given l) (sym (is ∙ o.entry.body)))

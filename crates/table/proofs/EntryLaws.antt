@@ -1,22 +1,18 @@
 -- What the functions over entries answer, over plain variables. Assumes nothing.
 use Prim.Native.Nat.{ℕ, ◌+◌, ◌*◌, ◌^◌, ◌≤◌, ◌<◌, max}
 use mathlib.Core.Path.{◌≡◌, sym, ap, ◌∙◌}
-use mathlib.Core.Bool.{Bool, true, false, not}
 use mathlib.Core.List.{List, [], map}
 use native.Mathlib.Numerals.{add-one}
 use native.Mathlib.Omega.{arith}
-use lib.Dec.{leb}
 use lib.ListN.{length, get_or, drop, drop_of_length-le}
-use borrow.Author.Tests.{le-leb, lt-leb, not-true, not-false}
 use Rattle.meaning.specs.Answer.{passed}
 use Rattle.meaning.specs.Bytes.{word_at}
-use Rattle.meaning.specs.Limits.{number_limit, most_numbers, rising}
-use Rattle.meaning.specs.Lists.{all, largest}
+use Rattle.meaning.specs.Limits.{number_limit}
+use Rattle.meaning.specs.Lists.{largest}
 use Rattle.meaning.specs.Sheet.{Column, count_in, size_in, edition_of, column_count, table_size, columns_of, column_at, sound, largest_count}
 use Rattle.table.specs.Offsets.{slot_of, sizes_before, body_offset, blank_column}
-use Rattle.table.specs.Rules.{entry_holds}
 use Rattle.table.proofs.Columns.{kind-is, count-is, size_is, size-in, Counted, one-of-them, past-them}
-use Rattle.table.proofs.Lists.{HoldBelow, hold-turn, hold-fail, hold-end, largest-next}
+use Rattle.table.proofs.Lists.{largest-next}
 use Rattle.table.proofs.Slots.{slot_small}
 use Rattle.table.proofs.Sounds.{sound-table}
 
@@ -68,32 +64,6 @@ module _ {sheet : List ℕ} {column at k : ℕ} (so : BodySo sheet column at k) 
 
   pub body_end : column ≤ k → at ≡ body_offset sheet column
   body_end h = let e : k ≡ column = omega (arith, so.most) in so.is ∙ ap (body_offset sheet) e
-
--- ---- whether an entry holds
-module _ (c : Column) {kind : ℕ} (is : kind ≡ c.kind) where
-  pub holds_not : rising < kind → false ≡ entry_holds c
-  holds_not h = rw (lt-leb c.kind rising (omega arith))
-
-  pub holds-counted : kind ≤ rising → {count : ℕ} → count ≡ c.count → leb count most_numbers ≡ entry_holds c
-  holds-counted h e = rw (le-leb c.kind rising (omega arith)) (ap (λ (k : ℕ). leb k most_numbers) e)
-
--- ---- whether every entry holds: those below k do
-pub record EntriesSo (sheet : List ℕ) (columns k : ℕ) : Type 0 where
-  pub counted : Counted sheet columns
-  pub below : HoldBelow entry_holds (columns_of sheet) k
-
-module _ {sheet : List ℕ} {columns k : ℕ} (so : EntriesSo sheet columns k) where
-  pub entries-end : columns ≤ k → true ≡ all entry_holds (columns_of sheet)
-  entries-end h = sym (hold-end entry_holds (columns_of sheet) k so.below (past-them so.counted h))
-
-  module _ (h : k < columns) {t : Bool} (is : t ≡ entry_holds (column_at sheet k)) where
-    pub entries-turn : not t ≡ false → EntriesSo sheet columns (k + 1)
-    entries-turn e =
-        let below = hold-turn entry_holds (columns_of sheet) blank_column k so.below (one-of-them so.counted h) (sym is ∙ not-false t e) in
-        record { counted = so.counted; below = below }
-
-    pub entries-fail : not t ≡ true → false ≡ all entry_holds (columns_of sheet)
-    entries-fail e = sym (hold-fail entry_holds (columns_of sheet) blank_column k so.below (one-of-them so.counted h) (sym is ∙ not-true t e))
 
 -- ---- the largest count: m is that of the columns below k
 pub record LargestSo (sheet : List ℕ) (columns m k : ℕ) : Type 0 where

@@ -1,23 +1,24 @@
 -- What the tests of a sheet answer, over plain variables. Assumes nothing.
-use Prim.Native.Nat.{ℕ, ◌+◌, ◌-◌, ◌≤◌, ◌<◌}
+use Prim.Native.Nat.{ℕ, ◌+◌, ◌≤◌, ◌<◌}
 use mathlib.Core.Path.{◌≡◌, sym, ap, ap₂, ◌∙◌}
-use mathlib.Core.Bool.{Bool, true, false, not}
+use mathlib.Core.Bool.{Bool, true, false}
+use mathlib.Core.Logic.{◌⊎◌, inl, inr}
 use mathlib.Core.List.{List, map}
 use native.Mathlib.Omega.{arith}
 use lib.Dec.{leb, eqb}
-use lib.ListN.{length, get_or, take, drop}
-use borrow.Author.Tests.{le-leb, lt-leb, not-true, not-false}
+use lib.ListN.{length}
+use borrow.Author.Tests.{le-leb, lt-leb}
 use Rattle.std.specs.Prelude.{Result, Ok, Err}
 use Rattle.meaning.specs.Answer.{passed, blamed, in_turn}
-use Rattle.meaning.specs.Limits.{most_columns, most_bytes, plan_bytes, last_edition}
+use Rattle.meaning.specs.Limits.{most_columns, most_bytes, last_edition}
 use Rattle.meaning.specs.Lists.{all, sum}
 use Rattle.meaning.specs.Plan.{judge_plan}
 use Rattle.meaning.specs.Says.{refusal_number, says}
 use Rattle.meaning.specs.Sheet.{edition_of, table_size, columns_of, column_at, is_edition, is_sheet, table_holds, column_count}
 use Rattle.meaning.specs.declared.Refusal.{Refusal}
-use Rattle.table.specs.Offsets.{slot_of, plan_offset, body_offset, blank_column}
+use Rattle.table.specs.Offsets.{slot_of, body_offset, blank_column}
 use Rattle.table.specs.Rules.{entry_holds, plan_judged}
-use Rattle.table.proofs.Columns.{plan-is, Counted, one-of-them, past-them, sizes-all}
+use Rattle.table.proofs.Columns.{Counted, one-of-them, past-them, sizes-all}
 use Rattle.table.proofs.InTurn.{PassedBelow, below-turn, below-refuse, below_end}
 
 -- ---- whether there is such an edition
@@ -32,24 +33,21 @@ module _ (edition : ℕ) where
 
 -- ---- whether it is a sheet
 module _ (sheet : List ℕ) where
-  pub too_short : length sheet < 2 → false ≡ is_sheet sheet
+  pub other-size : (length sheet < 2) ⊎ ((2 ≤ length sheet) × (most_bytes < length sheet)) → false ≡ is_sheet sheet
   unfolding is_sheet
-  too_short h = rw (lt-leb 2 (length sheet) h)
+  other-size (inl h) = rw (lt-leb 2 (length sheet) h)
+  other-size (inr h) = rw (le-leb 2 (length sheet) h.0, lt-leb (length sheet) most_bytes h.1)
 
   module _ (least : 2 ≤ length sheet) where
-    pub too_long : most_bytes < length sheet → false ≡ is_sheet sheet
-    unfolding is_sheet
-    too_long h = rw (le-leb 2 (length sheet) least, lt-leb (length sheet) most_bytes h)
-
     module _ (most : length sheet ≤ most_bytes) where
-      module _ {t : Bool} (known : t ≡ is_edition (edition_of sheet)) where
-        pub other-edition : not t ≡ true → false ≡ is_sheet sheet
+      module _ {e : ℕ} (is : e ≡ edition_of sheet) {t : Bool} (known : t ≡ is_edition e) where
+        pub other-edition : t ≡ false → false ≡ is_sheet sheet
         unfolding is_sheet
-        other-edition h = rw (le-leb 2 (length sheet) least, le-leb (length sheet) most_bytes most, ← known, not-true t h)
+        other-edition h = rw (le-leb 2 (length sheet) least, le-leb (length sheet) most_bytes most, ← is, ← known, h)
 
-        pub by_count : not t ≡ false → leb (get_or sheet 1 0) most_columns ≡ is_sheet sheet
+        pub by_count : t ≡ true → {n : ℕ} → n ≡ column_count sheet → leb n most_columns ≡ is_sheet sheet
         unfolding is_sheet
-        by_count h = rw (le-leb 2 (length sheet) least, le-leb (length sheet) most_bytes most, ← known, not-false t h)
+        by_count h c = rw (le-leb 2 (length sheet) least, le-leb (length sheet) most_bytes most, ← is, ← known, h, c)
 
 -- ---- whether the table holds
 module _ (sheet : List ℕ) {columns : ℕ} (n : columns ≡ column_count sheet) {b : ℕ} (is : b ≡ slot_of sheet columns) where
@@ -61,16 +59,16 @@ module _ (sheet : List ℕ) {columns : ℕ} (n : columns ≡ column_count sheet)
   table-whole h = omega (arith, ap (slot_of sheet) n)
 
   module _ (whole : b ≤ length sheet) {t : Bool} (held : t ≡ all entry_holds (columns_of sheet)) where
-    pub table-broken : not t ≡ true → false ≡ table_holds sheet
+    pub table-broken : t ≡ false → false ≡ table_holds sheet
     unfolding table_holds
     table-broken e =
-        let f : all entry_holds (columns_of sheet) ≡ false = sym held ∙ not-true t e in
+        let f : all entry_holds (columns_of sheet) ≡ false = sym held ∙ e in
         rw (le-leb (table_size sheet) (length sheet) (table-whole whole), f)
 
-    pub table_filled : not t ≡ false → {end : ℕ} → end ≡ body_offset sheet columns → eqb end (length sheet) ≡ table_holds sheet
+    pub table_filled : t ≡ true → {end : ℕ} → end ≡ body_offset sheet columns → eqb end (length sheet) ≡ table_holds sheet
     unfolding table_holds
     table_filled e {end} q =
-        let f : all entry_holds (columns_of sheet) ≡ true = sym held ∙ not-false t e in
+        let f : all entry_holds (columns_of sheet) ≡ true = sym held ∙ e in
         let z : end ≡ table_size sheet + sum (map (λ c. c.size) (columns_of sheet)) =
         q ∙ ap (body_offset sheet) n ∙ ap (λ (j : ℕ). table_size sheet + j) (sym (sizes-all sheet)) in
         rw (le-leb (table_size sheet) (length sheet) (table-whole whole), f) (ap (λ (j : ℕ). eqb j (length sheet)) z)
@@ -84,18 +82,11 @@ module _ {sheet : List ℕ} {columns k : ℕ} (so : PlansSo sheet columns k) whe
   pub plans-end : columns ≤ k → passed ≡ in_turn plan_judged 0 (columns_of sheet)
   plans-end h = sym (below_end plan_judged (columns_of sheet) k so.below (past-them so.counted h))
 
-  module _ (h : k < columns) {kind from : ℕ} (ek : kind ≡ (column_at sheet k).kind) (ef : from ≡ plan_offset sheet k) where
-    -- what is judged is the column's plan
-    abbrev part : List ℕ
-    part = take (from + plan_bytes - from) (drop from sheet)
+  module _ (h : k < columns) {kind : ℕ} {plan : List ℕ} (ek : kind ≡ (column_at sheet k).kind) (ep : plan ≡ (column_at sheet k).plan) where
+    here : judge_plan kind plan ≡ plan_judged (column_at sheet k)
+    here = ap₂ judge_plan ek ep
 
-    here : judge_plan kind part ≡ plan_judged (column_at sheet k)
-    here =
-        let size : from + plan_bytes - from ≡ plan_bytes = omega arith in
-        ap₂ judge_plan ek
-        (ap₂ (λ (i j : ℕ). take i (drop j sheet)) size ef ∙ sym (plan-is sheet k (omega (arith, so.counted.so))))
-
-    pub plans-turn : {r : Result (Unit {0}) Refusal} {u : Unit {0}} → says r ≡ judge_plan kind part → r ≡ Ok u → PlansSo sheet columns (k + 1)
+    pub plans-turn : {r : Result (Unit {0}) Refusal} {u : Unit {0}} → says r ≡ judge_plan kind plan → r ≡ Ok u → PlansSo sheet columns (k + 1)
     plans-turn is e =
         let passes = sym (is ∙ here) ∙ ap says e in
         record {
@@ -103,7 +94,7 @@ module _ {sheet : List ℕ} {columns k : ℕ} (so : PlansSo sheet columns k) whe
           below = below-turn plan_judged (columns_of sheet) blank_column k so.below (one-of-them so.counted h) tt passes;
         }
 
-    pub plans-refuse : {r : Result (Unit {0}) Refusal} {z : Refusal} → says r ≡ judge_plan kind part → r ≡ Err z
+    pub plans-refuse : {r : Result (Unit {0}) Refusal} {z : Refusal} → says r ≡ judge_plan kind plan → r ≡ Err z
         → blamed (refusal_number z) k ≡ in_turn plan_judged 0 (columns_of sheet)
     plans-refuse {z = z} is e =
         let refuses = sym (is ∙ here) ∙ ap says e in

@@ -1,13 +1,13 @@
 // The table's entries: where they stand, what they say, and where bodies begin.
 ghost use Rattle.std.specs.Prelude.{◌≡◌, ◌+◌, ◌<◌, ◌≤◌, ◌^◌, length};
+ghost use Rattle.meaning.specs.Bytes.{word_at};
 ghost use Rattle.meaning.specs.Limits.{number_limit, plan_bytes};
 ghost use Rattle.meaning.specs.Lists.{all};
 ghost use Rattle.meaning.specs.Sheet.{entry_size, edition_of, column_count, table_size, columns_of, column_at};
 ghost use Rattle.table.specs.Offsets.{entry_offset, slot_of, plan_offset, body_offset, Within};
 ghost use Rattle.table.specs.Rules.{entry_holds};
 
-use leaves::wide;
-use meaning::{ENTRY_SIZE, HEAD_SIZE, MOST_NUMBERS, Offset, RISING};
+use meaning::{ENTRY_SIZE, HEAD_SIZE, MOST_NUMBERS, Offset, PLAN_BYTES, RISING};
 use words::word_at;
 
 // Where a column's plan stands in its entry: where the meaning's `plan_in` says (specs/Sheet.antt of the crate `meaning`).
@@ -32,7 +32,7 @@ pub fn column_count(sheet: &[u8]) -> usize
     requires { 2 ≤ length sheet.now }
     ensures { (result ≡ column_count sheet.now) × (result < 256) }
 {
-    wide(sheet[1]) as usize
+    usize::from(sheet[1])
 }
 
 // How many bytes an entry takes: as many in either edition.
@@ -47,10 +47,10 @@ pub fn entry_start(edition: u8, column: usize) -> Offset
     requires { entry_offset edition column < 2 ^ 64 }
     ensures { result.byte ≡ entry_offset edition column }
 {
-    let size = entry_size(edition);
-    let entries = size * column;
-    let byte = HEAD_SIZE + entries;
-    Offset { byte }
+    let entries = entry_size(edition) * column;
+    Offset {
+        byte: HEAD_SIZE + entries,
+    }
 }
 
 // The same in a sheet, by its own edition.
@@ -58,8 +58,7 @@ pub fn slot_of(sheet: &[u8], column: usize) -> Offset
     requires { (2 ≤ length sheet.now) × (slot_of sheet.now column < 2 ^ 64) }
     ensures { result.byte ≡ slot_of sheet.now column }
 {
-    let edition = edition_of(sheet);
-    entry_start(edition, column)
+    entry_start(edition_of(sheet), column)
 }
 
 // Where a column's plan begins, which lies within the sheet.
@@ -68,8 +67,18 @@ pub fn plan_start(sheet: &[u8], column: usize) -> Offset
     ensures { (result.byte ≡ plan_offset sheet.now column) × (result.byte + plan_bytes ≤ length sheet.now) }
 {
     let start = slot_of(sheet, column);
-    let byte = start.byte + PLAN_IN;
-    Offset { byte }
+    Offset {
+        byte: start.byte + PLAN_IN,
+    }
+}
+
+// A column's plan.
+pub(crate) fn plan_at(sheet: &[u8], column: usize) -> &[u8]
+    requires { Within sheet.now column }
+    ensures { result.now ≡ (column_at sheet.now column).plan }
+{
+    let start = plan_start(sheet, column).byte;
+    &sheet[start..start + PLAN_BYTES]
 }
 
 // A column's kind.
@@ -77,9 +86,17 @@ pub fn kind_at(sheet: &[u8], column: usize) -> u8
     requires { Within sheet.now column }
     ensures { result ≡ (column_at sheet.now column).kind }
 {
+    sheet[slot_of(sheet, column).byte]
+}
+
+// A number in a column's entry, by where in the entry it stands.
+fn number_in(sheet: &[u8], column: usize, place: usize) -> usize
+    requires { Within sheet.now column × (place ≤ 20) }
+    ensures { (result ≡ word_at sheet.now (slot_of sheet.now column + place)) × (result < number_limit) }
+{
     let start = slot_of(sheet, column);
-    let at = start.byte;
-    sheet[at]
+    let byte = start.byte + place;
+    word_at(sheet, Offset { byte }) as usize
 }
 
 // A column's count.
@@ -87,9 +104,7 @@ pub fn count_at(sheet: &[u8], column: usize) -> usize
     requires { Within sheet.now column }
     ensures { result ≡ (column_at sheet.now column).count }
 {
-    let start = slot_of(sheet, column);
-    let byte = start.byte + COUNT_IN;
-    word_at(sheet, Offset { byte }) as usize
+    number_in(sheet, column, COUNT_IN)
 }
 
 // The length of a column's body.
@@ -97,9 +112,7 @@ pub fn size_at(sheet: &[u8], column: usize) -> usize
     requires { Within sheet.now column }
     ensures { (result ≡ (column_at sheet.now column).size) × (result < number_limit) }
 {
-    let start = slot_of(sheet, column);
-    let byte = start.byte + SIZE_IN;
-    word_at(sheet, Offset { byte }) as usize
+    number_in(sheet, column, SIZE_IN)
 }
 
 // Where a column's body begins: after the table and the bodies before it. That of the column past the last is where the bodies end.
@@ -108,14 +121,11 @@ pub fn body_start(sheet: &[u8], column: usize) -> Offset
     ensures { result.byte ≡ body_offset sheet.now column }
 {
     let columns = column_count(sheet);
-    let table = slot_of(sheet, columns);
-    let mut at = table.byte;
-    let mut k: usize = 0;
-    while k < column {
-        at += size_at(sheet, k);
-        k += 1;
+    let mut at = slot_of(sheet, columns);
+    for k in 0..column {
+        at.byte += size_at(sheet, k);
     }
-    Offset { byte: at }
+    at
 }
 
 // Whether a column's kind is at most 1 and its count at most 1,024.
@@ -123,10 +133,7 @@ fn entry_holds(sheet: &[u8], column: usize) -> bool
     requires { Within sheet.now column }
     ensures { result ≡ entry_holds (column_at sheet.now column) }
 {
-    if RISING < kind_at(sheet, column) {
-        return false;
-    }
-    count_at(sheet, column) <= MOST_NUMBERS
+    kind_at(sheet, column) <= RISING && count_at(sheet, column) <= MOST_NUMBERS
 }
 
 // Whether every entry holds.
@@ -134,14 +141,5 @@ pub fn entries_hold(sheet: &[u8]) -> bool
     requires { table_size sheet.now ≤ length sheet.now }
     ensures { result ≡ all entry_holds (columns_of sheet.now) }
 {
-    let columns = column_count(sheet);
-    let mut k: usize = 0;
-    while k < columns {
-        let held = entry_holds(sheet, k);
-        if !held {
-            return false;
-        }
-        k += 1;
-    }
-    true
+    (0..column_count(sheet)).all(|k| entry_holds(sheet, k))
 }

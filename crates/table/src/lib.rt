@@ -1,8 +1,10 @@
 // The sheet's table: whether a sheet is sound, its columns' entries, and a column's body fetched.
 #![tactic(auto)]
 
-ghost use Rattle.std.specs.Prelude.{◌≡◌};
+ghost use Rattle.std.specs.Prelude.{◌≡◌, ◌+◌, ◌≤◌, length};
 ghost use Rattle.meaning.specs.Answer.{passed};
+ghost use Rattle.meaning.specs.Limits.{plan_bytes};
+ghost use Rattle.meaning.specs.Places.{part};
 ghost use Rattle.meaning.specs.Promises.{Fetches};
 ghost use Rattle.meaning.specs.Says.{held, verdict_says};
 ghost use Rattle.meaning.specs.Sheet.{sound as sound_of, largest_count};
@@ -10,7 +12,7 @@ ghost use Rattle.table.specs.Entries.{Here, EntryIs, ColumnIs};
 
 use crate::entries::{body_start, column_count, count_at, kind_at, plan_start, size_at};
 use crate::rules::{is_sheet, plans_pass, table_holds};
-use meaning::{Fault, Offset, Refusal};
+use meaning::{Fault, Offset, PLAN_BYTES, Refusal};
 
 pub mod entries;
 pub mod rules;
@@ -25,17 +27,35 @@ pub struct Entry {
     pub body: Offset,
 }
 
+impl Entry {
+    // The column's plan, a part of its sheet.
+    pub fn plan_of<'a>(&self, sheet: &'a [u8]) -> &'a [u8]
+        requires { self.now.plan.byte + plan_bytes ≤ length sheet.now }
+        ensures { result.now ≡ part sheet.now self.now.plan.byte plan_bytes }
+    {
+        let start = self.plan.byte;
+        &sheet[start..start + PLAN_BYTES]
+    }
+
+    // Its body, a part of its sheet.
+    pub fn body_of<'a>(&self, sheet: &'a [u8]) -> &'a [u8]
+        requires { self.now.body.byte + self.now.size ≤ length sheet.now }
+        ensures { result.now ≡ part sheet.now self.now.body.byte self.now.size }
+    {
+        let start = self.body.byte;
+        &sheet[start..start + self.size]
+    }
+}
+
 // What every operation on a sheet asks first: 1; 2; each plan in turn, 3 before 4. A refusal names the column at fault.
 pub fn sound(sheet: &[u8]) -> Result<(), Fault>
     ensures { verdict_says result ≡ sound_of sheet.now }
 {
-    let known = is_sheet(sheet);
-    if !known {
-        return Err(Fault::from(Refusal::NoSheet));
+    if !is_sheet(sheet) {
+        return Err(Refusal::NoSheet.into());
     }
-    let holds = table_holds(sheet);
-    if !holds {
-        return Err(Fault::from(Refusal::BadTable));
+    if !table_holds(sheet) {
+        return Err(Refusal::BadTable.into());
     }
     plans_pass(sheet)
 }
@@ -45,17 +65,12 @@ pub fn entry_at(sheet: &[u8], column: usize) -> Entry
     requires { Here sheet.now column }
     ensures { EntryIs sheet.now column result }
 {
-    let kind = kind_at(sheet, column);
-    let plan = plan_start(sheet, column);
-    let count = count_at(sheet, column);
-    let size = size_at(sheet, column);
-    let body = body_start(sheet, column);
     Entry {
-        kind,
-        plan,
-        count,
-        size,
-        body,
+        kind: kind_at(sheet, column),
+        plan: plan_start(sheet, column),
+        count: count_at(sheet, column),
+        size: size_at(sheet, column),
+        body: body_start(sheet, column),
     }
 }
 
@@ -64,15 +79,9 @@ pub fn largest_count(sheet: &[u8]) -> usize
     requires { sound_of sheet.now ≡ passed }
     ensures { result ≡ largest_count sheet.now }
 {
-    let columns = column_count(sheet);
     let mut most: usize = 0;
-    let mut k: usize = 0;
-    while k < columns {
-        let count = count_at(sheet, k);
-        if most < count {
-            most = count;
-        }
-        k += 1;
+    for k in 0..column_count(sheet) {
+        most = most.max(count_at(sheet, k));
     }
     most
 }
@@ -82,8 +91,7 @@ pub fn column_at(sheet: &[u8], column: usize) -> Result<Entry, Refusal>
     ensures { ColumnIs sheet.now column result }
 {
     sound(sheet)?;
-    let columns = column_count(sheet);
-    if columns <= column {
+    if column_count(sheet) <= column {
         return Err(Refusal::NoColumn);
     }
     Ok(entry_at(sheet, column))
@@ -94,8 +102,5 @@ pub fn fetch<'a>(sheet: &'a [u8], column: usize) -> Result<&'a [u8], Refusal>
     ensures { Fetches sheet.now column (held result) }
 {
     let entry = column_at(sheet, column)?;
-    let body = entry.body;
-    let from = body.byte;
-    let to = from + entry.size;
-    Ok(&sheet[from..to])
+    Ok(entry.body_of(sheet))
 }

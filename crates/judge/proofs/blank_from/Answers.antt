@@ -1,16 +1,18 @@
--- `blank_from` has asked the bytes before i, and asks the rest. Assumes nothing.
-use mathlib.Core.Path.{refl}
-use Rattle.judge.proofs.FrontLaws.{blank_turn, blank-fail, blank-end}
+-- `blank_from` asks each byte from the offset on. Assumes nothing.
+use mathlib.Core.Path.{◌≡◌}
+use mathlib.Core.Bool.{true, false}
+use lib.Dec.{eqb}
+use lib.ListN.{drop}
+use borrow.Author.Tests.{tests}
+use Rattle.std.proofs.Common.{rules}
+use Rattle.std.proofs.lemmas.Iterator.{cases_from_all, YieldsList-from_slice}
+use Rattle.std.proofs.lemmas.Iterator.Adapters.{YieldsList-from_skip}
+use Rattle.meaning.proofs.Every.{all-told}
 use Rattle.judge.proofs.blank_from.Goals as goal
 
-pub loop-i-init : goal.loop-i-init
-loop-i-init c = refl
-
-pub returns-then-plan-i-ne0 : goal.returns-then-plan-i-ne0
-returns-then-plan-i-ne0 c = blank-fail c.args.plan.now c.loop-i.i _ c.loop-i.invariant c.loop-i-test.true c.if-plan-i-ne0.true
-
-pub loop-i-preserved : goal.loop-i-preserved
-loop-i-preserved c = blank_turn c.args.plan.now c.loop-i.i _ c.loop-i.invariant c.loop-i-test.true c.if-plan-i-ne0.false
-
 pub returns : goal.returns
-returns c = blank-end c.args.plan.now c.loop-i.i _ c.loop-i.invariant c.loop-i-test.false
+returns c =
+    all-told (eqb 0) (drop c.args.at.byte c.args.plan.now) c.all.result
+    (cases_from_all _ _ _ (λ b. eqb 0 b ≡ true) (λ b. eqb 0 b ≡ false) c.all.ensures.ran
+    (YieldsList-from_skip c.args.at.byte (YieldsList-from_slice c.args.plan.now cc) cc)
+    (λ x q k. search (rules, tests)) (λ x q k. search (rules, tests)))

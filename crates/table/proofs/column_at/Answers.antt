@@ -11,11 +11,11 @@ returns-in_err-sound c =
     let p = err_from_is_err_and c.from_residual.result c.from_residual.ensures.1 in
     rw (p.1, p.2) (column-unsound c.args.sheet.now c.args.column _ _ (sym c.in_err-sound.ensures))
 
-pub column_count-columns-requires : goal.column_count-columns-requires
-column_count-columns-requires c = (sound-sheet c.args.sheet.now (sym c.in_ok-sound.ensures)).least
+pub column_count-requires : goal.column_count-requires
+column_count-requires c = (sound-sheet c.args.sheet.now (sym c.in_ok-sound.ensures)).least
 
-pub returns-then-columns-column : goal.returns-then-columns-column
-returns-then-columns-column c = column-none c.args.sheet.now c.args.column (sym c.in_ok-sound.ensures) (omega arith)
+pub returns-then-column_count-column : goal.returns-then-column_count-column
+returns-then-column_count-column c = column-none c.args.sheet.now c.args.column (sym c.in_ok-sound.ensures) (omega arith)
 
 pub entry_at-requires : goal.entry_at-requires
 entry_at-requires c = record { sounds = sym c.in_ok-sound.ensures; exists = omega arith }

@@ -1,12 +1,8 @@
 -- `fetch` hands back the body that the entry names. Assumes nothing.
 use mathlib.Core.Path.{sym}
-use native.Mathlib.Omega.{arith}
 use Rattle.std.proofs.lemmas.Result.{err_from_is_err_and}
 use Rattle.table.proofs.ColumnLaws.{fetch-body, fetch-refused}
 use Rattle.table.proofs.fetch.Goals as goal
-
-pub overflow_add-to : goal.overflow_add-to
-overflow_add-to c = omega (arith, c.in_ok-entry.ensures.entry.body_fits)
 
 pub returns-in_err-entry : goal.returns-in_err-entry
 returns-in_err-entry c =
@@ -14,7 +10,4 @@ returns-in_err-entry c =
     rw (p.1, p.2) (sym (fetch-refused c.args.sheet.now c.args.column _ c.in_err-entry.ensures))
 
 pub returns : goal.returns
-returns c = sym (fetch-body c.in_ok-entry.ensures)
-
-pub slice_bounds-result-end : goal.slice_bounds-result-end
-slice_bounds-result-end c = omega (arith, c.in_ok-entry.ensures.entry.body_fits)
+returns c = sym (fetch-body c.in_ok-entry.ensures c.body_of.ensures)

@@ -1,18 +1,21 @@
--- `entries_hold` has asked the entries below k, and asks the rest. Assumes nothing.
-use mathlib.Core.Path.{ap}
-use mathlib.Core.Bool.{not}
-use mathlib.Core.Path.{refl}
-use Rattle.table.proofs.EntryLaws.{entries-turn, entries-fail, entries-end}
+-- `entries_hold` asks each entry. Assumes nothing.
+use mathlib.Core.Path.{sym, ◌∙◌}
+use mathlib.Core.Bool.{true, false}
+use native.Mathlib.Omega.{arith}
+use borrow.Author.Tests.{tests}
+use Rattle.std.proofs.Common.{rules}
+use Rattle.std.proofs.lemmas.Iterator.{cases_from_all, YieldsList-from_range}
+use Rattle.meaning.specs.Sheet.{columns_of}
+use Rattle.meaning.proofs.Every.{Place, all-places}
+use Rattle.table.specs.Offsets.{blank_column}
+use Rattle.table.specs.Rules.{entry_holds}
+use Rattle.table.proofs.Columns.{column-count}
 use Rattle.table.proofs.entries.entries_hold.Goals as goal
 
-pub loop-k-init : goal.loop-k-init
-loop-k-init c = record { counted = record { whole = c.requires; so = c.column_count-columns.ensures.0 }; below = refl }
-
-pub returns-then-not-held : goal.returns-then-not-held
-returns-then-not-held c = entries-fail c.loop-k.invariant c.loop-k-test.true c.entry_holds-held.ensures (ap not c.if-not-held.true)
-
-pub loop-k-preserved : goal.loop-k-preserved
-loop-k-preserved c = entries-turn c.loop-k.invariant c.loop-k-test.true c.entry_holds-held.ensures (ap not c.if-not-held.false)
-
 pub returns : goal.returns
-returns c = entries-end c.loop-k.invariant c.loop-k-test.false
+returns c =
+    let cs = columns_of c.args.sheet.now in
+    all-places entry_holds cs blank_column c.column_count.result c.all.result (c.column_count.ensures.0 ∙ sym (column-count c.args.sheet.now))
+    (cases_from_all _ _ _ (Place entry_holds cs blank_column true) (Place entry_holds cs blank_column false) c.all.ensures.ran
+    (YieldsList-from_range 0 c.column_count.result c.column_count.result (cc) (omega arith))
+    (λ x q k. search (rules, tests)) (λ x q k. search (rules, tests)))

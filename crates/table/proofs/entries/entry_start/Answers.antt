@@ -5,10 +5,7 @@ use native.Mathlib.Omega.{arith}
 use Rattle.table.proofs.entries.entry_start.Goals as goal
 
 pub overflow_mul-entries : goal.overflow_mul-entries
-overflow_mul-entries c = let a = c.args in omega (arith, ap (λ (s : ℕ). s * a.column) c.entry_size-size.ensures)
-
-pub overflow_add-byte : goal.overflow_add-byte
-overflow_add-byte c = let a = c.args in omega (arith, ap (λ (s : ℕ). s * a.column) c.entry_size-size.ensures)
+overflow_mul-entries c = let a = c.args in omega (arith, ap (λ (s : ℕ). s * a.column) c.entry_size.ensures)
 
 pub returns : goal.returns
-returns c = let a = c.args in omega (arith, ap (λ (s : ℕ). s * a.column) c.entry_size-size.ensures)
+returns c = let a = c.args in omega (arith, ap (λ (s : ℕ). s * a.column) c.entry_size.ensures)

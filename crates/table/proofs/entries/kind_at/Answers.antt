@@ -4,11 +4,11 @@ use Rattle.table.proofs.Slots.{slot-within}
 use Rattle.table.proofs.EntryLaws.{kind-here}
 use Rattle.table.proofs.entries.kind_at.Goals as goal
 
-pub slot_of-start-requires : goal.slot_of-start-requires
-slot_of-start-requires c = omega (arith, slot-within c.requires)
+pub slot_of-requires : goal.slot_of-requires
+slot_of-requires c = omega (arith, slot-within c.requires)
 
-pub bounds-sheet-at : goal.bounds-sheet-at
-bounds-sheet-at c = omega (arith, slot-within c.requires)
+pub bounds-sheet-slot_of : goal.bounds-sheet-slot_of
+bounds-sheet-slot_of c = omega (arith, slot-within c.requires)
 
 pub returns : goal.returns
-returns c = kind-here c.args.sheet.now c.args.column c.requires.below c.slot_of-start.ensures
+returns c = kind-here c.args.sheet.now c.args.column c.requires.below c.slot_of.ensures

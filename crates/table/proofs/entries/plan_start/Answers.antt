@@ -6,8 +6,5 @@ use Rattle.table.proofs.entries.plan_start.Goals as goal
 pub slot_of-start-requires : goal.slot_of-start-requires
 slot_of-start-requires c = omega (arith, slot-within c.requires)
 
-pub overflow_add-byte : goal.overflow_add-byte
-overflow_add-byte c = omega (arith, slot-within c.requires)
-
 pub returns : goal.returns
 returns c = omega (arith, slot-within c.requires)

@@ -1,19 +1,17 @@
 -- `is_sheet` asks in the definition's order. Assumes nothing.
-use mathlib.Core.Path.{ap}
-use mathlib.Core.Bool.{not}
-use Rattle.table.proofs.RuleLaws.{too_short, too_long, other-edition, by_count}
+use mathlib.Core.Path.{◌∙◌}
+use Rattle.table.proofs.RuleLaws.{other-size, other-edition, by_count}
 use Rattle.table.proofs.rules.is_sheet.Goals as goal
 
-pub returns-then-size-lt2 : goal.returns-then-size-lt2
-returns-then-size-lt2 c = too_short c.args.sheet.now c.if-size-lt2.true
+pub returns-then-sheet-lt2 : goal.returns-then-sheet-lt2
+returns-then-sheet-lt2 c = other-size c.args.sheet.now c.then-sheet-lt2.either
 
-pub returns-then-size-gt-MOST_BYTES : goal.returns-then-size-gt-MOST_BYTES
-returns-then-size-gt-MOST_BYTES c = too_long c.args.sheet.now c.if-size-lt2.false c.if-size-gt-MOST_BYTES.true
+pub returns-then-is_edition : goal.returns-then-is_edition
+returns-then-is_edition c =
+    by_count c.args.sheet.now c.if-sheet-lt2.false c.if-sheet-gt-MOST_BYTES.false c.edition_of.ensures c.is_edition.ensures
+    c.if-is_edition.true c.column_count.ensures.0
 
-pub returns-then-not-known : goal.returns-then-not-known
-returns-then-not-known c =
-    other-edition c.args.sheet.now c.if-size-lt2.false c.if-size-gt-MOST_BYTES.false c.is_edition-known.ensures (ap not c.if-not-known.true)
-
-pub returns : goal.returns
-returns c =
-    by_count c.args.sheet.now c.if-size-lt2.false c.if-size-gt-MOST_BYTES.false c.is_edition-known.ensures (ap not c.if-not-known.false)
+pub returns-else-is_edition : goal.returns-else-is_edition
+returns-else-is_edition c =
+    c.if-is_edition.false
+    ∙ other-edition c.args.sheet.now c.if-sheet-lt2.false c.if-sheet-gt-MOST_BYTES.false c.edition_of.ensures c.is_edition.ensures c.if-is_edition.false

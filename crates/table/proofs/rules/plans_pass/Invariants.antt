@@ -1,10 +1,6 @@
--- `plans_pass` has passed the plans below k. Assumes nothing.
-use Prim.Native.Nat.{◌-◌}
+-- `plans_pass` has passed the plans before a column's. Assumes nothing.
 use Rattle.table.proofs.RuleLaws.{PlansSo}
 use Rattle.table.proofs.rules.plans_pass.Given as goal
 
-abbrev pub invariant-loop-k : goal.invariant-loop-k
-invariant-loop-k l = PlansSo l.sheet l.columns l.k
-
-abbrev pub decreases-loop-k : goal.decreases-loop-k
-decreases-loop-k l = l.columns - l.k
+abbrev pub invariant-loop-column : goal.invariant-loop-column
+invariant-loop-column l = PlansSo l.sheet l.column-end l.column
