@@ -2,18 +2,18 @@
 ghost use Rattle.std.specs.Prelude.{◌≡◌, ◌+◌, ◌≤◌};
 ghost use Rattle.meaning.specs.Answer.{number};
 ghost use Rattle.meaning.specs.Limits.{most_stages};
-ghost use Rattle.meaning.specs.Plan.{plan_at, plan_of, runs_at};
+ghost use Rattle.meaning.specs.Plan.{plan_at, plan_of};
 ghost use Rattle.meaning.specs.Says.{says, says_by};
 ghost use Rattle.meaning.specs.Stages.{look, numbers_through, seek, within};
 ghost use Rattle.codes.specs.Firsts.{Looked, total};
 ghost use Rattle.codes.specs.Started.{run_told};
-ghost use Rattle.plan_look.specs.Turns.{run_of};
+ghost use Rattle.plan_look.specs.Turns.{found_told, run_in, run_of, second_at};
 
 use crate::firsts::firsts_plan;
 use codes::{First, lookup_code, seek_code, total_code};
 use judge::stage::{Stage, plan_end, stage_at};
 use meaning::{Offset, Place, Refusal};
-use stages::{Sought, header_of, seek_in, total_of};
+use stages::{Header, Sought, header_of, seek_in, total_of};
 use words::word_at;
 
 // A sum as a number, refused above 2^32 - 1.
@@ -108,9 +108,27 @@ fn find_run(
     seek_code(code, body, runs, n, place)
 }
 
+// A run stage's header and the run that holds a place of n; the stage's two inner plans begin at `pos`, and lengths are by the second.
+fn run_at(
+    plan: &[u8],
+    pos: Offset,
+    stages: usize,
+    body: &[u8],
+    n: usize,
+    place: Place,
+) -> Result<(Header, Place), Refusal>
+    requires { (Looked body.now n place.number) × (stages ≤ 2) }
+    ensures { says_by found_told result ≡ run_in (second_at stages plan.now pos.byte) body.now n place.number }
+{
+    let header = header_of(body, n)?;
+    let split = header.end.byte;
+    let second = plan_end(plan, pos, stages);
+    let run = find_run(plan, second, stages, &body[split..], header.runs, n, place)?;
+    Ok((header, run))
+}
+
 // The refusal of the numbers through a place when they are taken once and no sum is tested, if there is one. It is asked for only where their sum is
 // refused: a number that is too large comes after whatever is cut short or broken behind it.
-#[cycle(taking_taking_runs)]
 fn taking(
     plan: &[u8],
     pos: Offset,
@@ -134,32 +152,14 @@ fn taking(
             total_plan(plan, pos, stages, body, n, place)?;
             Ok(())
         }
-        Stage::Runs(next, less) => taking_runs(plan, next, less, body, n, place),
+        Stage::Runs(next, less) => {
+            let (header, run) = run_at(plan, next, less, body, n, place)?;
+            taking(plan, next, less, &body[8..header.end.byte], header.runs, run)
+        }
     }
 }
 
-// By a run stage whose two inner plans begin at `pos`: the lengths through the run that holds the place, then the values through it.
-#[cycle(taking_taking_runs)]
-fn taking_runs(
-    plan: &[u8],
-    pos: Offset,
-    stages: usize,
-    body: &[u8],
-    n: usize,
-    place: Place,
-) -> Result<(), Refusal>
-    requires { (Looked body.now n place.number) × (stages ≤ 2) }
-    ensures { number (says result) ≡ number (numbers_through (runs_at stages plan.now pos.byte) body.now n place.number) }
-{
-    let header = header_of(body, n)?;
-    let split = header.end.byte;
-    let after = plan_end(plan, pos, stages);
-    let run = find_run(plan, after, stages, &body[split..], header.runs, n, place)?;
-    taking(plan, pos, stages, &body[8..split], header.runs, run)
-}
-
 // The number at a place of n.
-#[cycle(lookup_plan_lookup_runs)]
 pub fn lookup_plan(
     plan: &[u8],
     pos: Offset,
@@ -189,28 +189,11 @@ pub fn lookup_plan(
                 Err(e)
             }
         },
-        Stage::Runs(next, less) => lookup_runs(plan, next, less, body, n, place),
+        Stage::Runs(next, less) => {
+            let (header, run) = run_at(plan, next, less, body, n, place)?;
+            lookup_plan(plan, next, less, &body[8..header.end.byte], header.runs, run)
+        }
     }
-}
-
-// By a run stage whose two inner plans begin at `pos`.
-#[cycle(lookup_plan_lookup_runs)]
-fn lookup_runs(
-    plan: &[u8],
-    pos: Offset,
-    stages: usize,
-    body: &[u8],
-    n: usize,
-    place: Place,
-) -> Result<u32, Refusal>
-    requires { (Looked body.now n place.number) × (stages ≤ 2) }
-    ensures { says result ≡ look (runs_at stages plan.now pos.byte) body.now n place.number }
-{
-    let header = header_of(body, n)?;
-    let split = header.end.byte;
-    let second = plan_end(plan, pos, stages);
-    let run = find_run(plan, second, stages, &body[split..], header.runs, n, place)?;
-    lookup_plan(plan, pos, stages, &body[8..split], header.runs, run)
 }
 
 // The number at a place of a column of n numbers, by the column's plan.
