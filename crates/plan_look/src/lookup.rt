@@ -17,13 +17,11 @@ use stages::{Header, Sought, header_of, seek_in, total_of};
 use words::word_at;
 
 // A sum as a number, refused above 2^32 - 1.
+#[tactic(auto, unfolding(meaning::specs::Stages::within))]
 fn number_of(sum: u64) -> Result<u32, Refusal>
     ensures { says result ≡ within sum }
 {
-    if sum <= 4294967295 {
-        return Ok(sum as u32);
-    }
-    Err(Refusal::Broken)
+    u32::try_from(sum).or(Err(Refusal::Broken))
 }
 
 // The sum of the numbers through a place, below a stage: they are collected first.
