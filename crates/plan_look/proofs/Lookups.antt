@@ -6,18 +6,18 @@ use mathlib.Core.List.{List}
 use native.Mathlib.Nat.{zero-add}
 use native.Mathlib.Omega.{arith}
 use lib.Dec.{eqb}
-use Rattle.std.specs.Prelude.{Result, Ok, Err}
+use Rattle.std.specs.Prelude.{Option, Some, None, SomeIff, ok_or, Result, Ok}
 use lib.ListN.{length, get_or, take, drop}
 use lib.Seq.{take_all, length-take-le, get_or-take}
 use Rattle.meaning.specs.Answer.{Answer, given, refused, number}
 use Rattle.meaning.specs.Bytes.{word_at}
 use Rattle.meaning.specs.Codes.{code_of, look_code}
-use Rattle.meaning.specs.Limits.{cut_short, broken}
+use Rattle.meaning.specs.Limits.{number_limit, cut_short, broken}
 use Rattle.meaning.specs.Plan.{Plan, bad, code, reference, differences, runs}
 use Rattle.meaning.specs.Stages.{within, seek, look, numbers_through}
 use Rattle.meaning.specs.declared.Place.{Place}
 use Rattle.meaning.specs.declared.Refusal.{Refusal}
-use Rattle.meaning.specs.Says.{refusal_number}
+use Rattle.meaning.specs.Says.{refusal_number, says}
 use Rattle.meaning.specs.declared.Refusal.TheVariants as refusal
 use Rattle.meaning.proofs.Answers.{bind-given}
 use Rattle.meaning.proofs.Tests.{by_order}
@@ -33,7 +33,8 @@ use Rattle.stages.specs.declared.Sought.TheVariants as sought
 use Rattle.codes.proofs.Numbered.{laws}
 use Rattle.codes.proofs.Totals.{total-stops, total-numbers}
 use Rattle.stages.proofs.Faults.{through-faulty}
-use Rattle.stages.proofs.Through.{through-all, differences-later}
+use Rattle.stages.proofs.Looks.{within-given}
+use Rattle.stages.proofs.Through.{within-over, through-all, differences-later}
 use Rattle.stages.proofs.Seeks.{seek-below, seek-stops, seek-none}
 use Rattle.plan_look.specs.Turns.{stop_of, run_of, run_in}
 use Rattle.plan_look.proofs.Looks.{bad-at, code_at, reference-short, reference-at, look-run}
@@ -53,6 +54,11 @@ number-some refusal.Falls = refl
 number-some refusal.BadOrders = refl
 number-some refusal.BadBoard = refl
 number-some refusal.Broken = refl
+
+-- a sum of two numbers that is tested as it is made
+checked-within : (r : Option ℕ) (v : ℕ) → SomeIff r (v < number_limit) v → says (ok_or r refusal.Broken) ≡ within v
+checked-within (Some x) v h = ap (λ (y : ℕ). given y) h.1 ∙ sym (within-given v h.0)
+checked-within None v h = by_order v number_limit (λ l. absurd (h l)) (λ l. sym (within-over v l))
 
 -- ---- the work that a lookup lays out for itself
 room-two : (l n : ℕ) → l ≤ 2 → room l n ≤ 5 * n
@@ -89,17 +95,13 @@ module _ (at : ℕ → Answer ℕ) (n place many few : ℕ) (w w' : List ℕ) (g
         (omega (arith, size, f.most))
         ∙ ap (λ (k : ℕ). sought_from at n place many 0 k r) size
 
-    -- a length breaks a rule
-    pub sought-fault : {z : Refusal} → r ≡ Err z → refused (refusal_number z) ≡ seek at n place many 0 0
-    sought-fault q = sym (on-sought ∙ ap (sought_from at n place many 0 got.count) q)
-
     pub run-sought : {x : Sought} → r ≡ Ok x → run_of got x ≡ seek at n place many 0 0
     run-sought {x} q =
         let h : Within (length (take got.count w')) n place 0 (Ok x) = rw q at s.within in
         by-sought x h (on-sought ∙ ap (sought_from at n place many 0 got.count) q)
       where
-        by-sought : (x : Sought) → Within (length (take got.count w')) n place 0 (Ok x) → seek at n place many 0 0 ≡ sought_from at n place many 0 got.count (Ok x)
-            → run_of got x ≡ seek at n place many 0 0
+        by-sought : (x : Sought) → Within (length (take got.count w')) n place 0 (Ok x)
+            → seek at n place many 0 0 ≡ sought_from at n place many 0 got.count (Ok x) → run_of got x ≡ seek at n place many 0 0
         by-sought (sought.At j) h t = ap (λ (k : ℕ). given k) (sym (zero-add j.number)) ∙ sym t
         by-sought (sought.After s) h t = sym (t ∙ sought-on s (omega (arith, size, h.1)) (h.2 (omega arith)))
 
@@ -154,9 +156,9 @@ module _ (p : Plan) (body : List ℕ) (n place : ℕ) where
       pub reference-refused : {z : ℕ} → refused z ≡ look q (take (length body - 4) (drop 4 body)) n place → refused z ≡ look p body n place
       reference-refused t = sym (reference-at p body n q e m h em place ∙ rw (← t))
 
-      pub reference-sum : {x : ℕ} {a : Answer ℕ} → given x ≡ look q (take (length body - 4) (drop 4 body)) n place → a ≡ within (m + x)
-          → a ≡ look p body n place
-      reference-sum t u = u ∙ sym (reference-at p body n q e m h em place ∙ rw (← t))
+      pub reference-sum : {x : ℕ} (r : Option ℕ) → given x ≡ look q (take (length body - 4) (drop 4 body)) n place → SomeIff r (m + x < number_limit) (m + x)
+          → says (ok_or r refusal.Broken) ≡ look p body n place
+      reference-sum r t u = checked-within r _ u ∙ sym (reference-at p body n q e m h em place ∙ rw (← t))
 
   module _ (p₁ q : Plan) (e : p ≡ runs p₁ q) where
     pub look-no-run : {z : ℕ} → refused z ≡ run_in q body n place → refused z ≡ look p body n place

@@ -152,9 +152,10 @@ fn firsts_runs(
     let third = Place {
         number: first + 2 * n,
     };
-    let few = header.runs.min(k);
+    let runs = header.runs;
+    let few = runs.min(k);
     let after = plan_end(plan, pos, stages);
-    let values = firsts_plan(plan, pos, stages, &body[8..split], header.runs, few, work, second);
-    let lengths = firsts_plan(plan, after, stages, &body[split..], header.runs, few, work, third);
-    spread_runs(work, from, n, k, header.runs, values, lengths)
+    let values = firsts_plan(plan, pos, stages, &body[8..split], runs, few, work, second);
+    let lengths = firsts_plan(plan, after, stages, &body[split..], runs, few, work, third);
+    spread_runs(work, from, n, k, runs, values, lengths)
 }

@@ -47,7 +47,14 @@ fn total_stage(
 }
 
 // The sum of the numbers through a place: a code adds them up as it reads.
-fn total_plan(plan: &[u8], pos: Offset, stages: usize, body: &[u8], n: usize, place: Place) -> Result<u64, Refusal>
+fn total_plan(
+    plan: &[u8],
+    pos: Offset,
+    stages: usize,
+    body: &[u8],
+    n: usize,
+    place: Place,
+) -> Result<u64, Refusal>
     requires { (Looked body.now n place.number) × (stages ≤ 2) }
     ensures { says result ≡ total (look (plan_at stages plan.now pos.byte) body.now n) (place.number + 1) }
 {
@@ -152,7 +159,8 @@ fn taking(
         }
         Stage::Runs(next, less) => {
             let (header, run) = run_at(plan, next, less, body, n, place)?;
-            taking(plan, next, less, &body[8..header.end.byte], header.runs, run)
+            let values = &body[8..header.end.byte];
+            taking(plan, next, less, values, header.runs, run)
         }
     }
 }
@@ -178,7 +186,7 @@ pub fn lookup_plan(
             }
             let m = word_at(body, Offset { byte: 0 });
             let x = lookup_plan(plan, next, less, &body[4..], n, place)?;
-            number_of(u64::from(m) + u64::from(x))
+            m.checked_add(x).ok_or(Refusal::Broken)
         }
         Stage::Differences(next, less) => match total_plan(plan, next, less, body, n, place) {
             Ok(sum) => number_of(sum),
@@ -189,12 +197,14 @@ pub fn lookup_plan(
         },
         Stage::Runs(next, less) => {
             let (header, run) = run_at(plan, next, less, body, n, place)?;
-            lookup_plan(plan, next, less, &body[8..header.end.byte], header.runs, run)
+            let values = &body[8..header.end.byte];
+            lookup_plan(plan, next, less, values, header.runs, run)
         }
     }
 }
 
 // The number at a place of a column of n numbers, by the column's plan.
+#[tactic(auto, unfolding(meaning::specs::Plan::plan_of))]
 pub fn lookup_list(plan: &[u8], body: &[u8], n: usize, place: Place) -> Result<u32, Refusal>
     requires { Looked body.now n place.number }
     ensures { says result ≡ look (plan_of plan.now) body.now n place.number }
