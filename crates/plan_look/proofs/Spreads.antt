@@ -129,7 +129,8 @@ module _ (from n k runs : ℕ) (w w₁ : List ℕ) (values lengths : First) (lai
               let e : j ≡ values.count = by_order j both (λ b. absurd (fits_not b t)) (λ b. omega (arith, laid-few)) in
               let (z, q, u) = fv.stops (omega (arith, fl.most)) in
               let none : value_at j ≡ refused (refusal_number z) = ap value_at e ∙ u in
-              rw q (ap then (past ∙ seek-here length_at n s (runs - j) j s (omega (arith, fl.most)) l (length-next m) t (omega (arith, fits-so n s l t))) ∙ none)
+              let here = seek-here length_at n s (runs - j) j s (omega (arith, fl.most)) l (length-next m) t (omega (arith, fits-so n s l t)) in
+              rw q (ap then (past ∙ here) ∙ none)
 
 pub runs-turned : (runs : ℕ) {from n k : ℕ} {w w₁ : List ℕ} {values lengths : First} {laid : Laid} → from + 3 * n ≤ length w → k ≤ n → values.count ≤ n
     → (both : ℕ) → both ≡ min values.count lengths.count → Spread (part w (from + n) both) (part w (from + 2 * n) both) n k from w w₁ laid

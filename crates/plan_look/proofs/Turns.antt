@@ -40,7 +40,13 @@ pub firsts-ended : (at : ℕ → Answer ℕ) (k from : ℕ) (w w' : List ℕ) (c
 unfolding ended_by
 firsts-ended at k from w w' c z are stops kept =
     by_order c k
-    (λ h. rw (lt-ltb c k h) (record { most = omega arith; are = λ i l. are i l (omega arith); stops = λ l. (z, refl, stops l); all = λ b. absurd (omega arith); kept = kept }))
+    (λ h. rw (lt-ltb c k h) (record {
+      most = omega arith;
+      are = λ i l. are i l (omega arith);
+      stops = λ l. (z, refl, stops l);
+      all = λ b. absurd (omega arith);
+      kept = kept;
+    }))
     (λ h. rw (le-ltb c k h) (record {
       most = omega arith;
       are = λ i l. are i (omega arith) l;
@@ -127,13 +133,13 @@ module _ {at : ℕ → Answer ℕ} {k from : ℕ} {w₀ w : List ℕ} {got : Fir
 
   -- ---- their sum
   -- what stops them, stops it
-  pub stopped : {e : Refusal} → got.stop ≡ Some e → (got.count < k) × (at got.count ≡ refused (refusal_number e))
+  stopped : {e : Refusal} → got.stop ≡ Some e → (got.count < k) × (at got.count ≡ refused (refusal_number e))
   stopped {e} h =
       by_order got.count k
       (λ l. let (z, q, s) = f.stops l in let same : z ≡ e = cc in (l, s ∙ ap (λ (x : Refusal). refused (refusal_number x)) same))
       (λ l. let q = f.all (omega (arith, f.most)) in let z : ◌≡◌ {A = ℕ} 0 1 = cc in absurd (omega arith))
 
-  pub whole : got.stop ≡ None → k ≤ got.count
+  whole : got.stop ≡ None → k ≤ got.count
   whole h = by_order got.count k (λ l. let (z, q, s) = f.stops l in let z : ◌≡◌ {A = ℕ} 0 1 = cc in absurd (omega arith)) (λ l. l)
 
   pub total-fewer : {e : Refusal} → got.stop ≡ Some e → from + got.count ≤ length w → refused (refusal_number e) ≡ total at k
@@ -142,8 +148,9 @@ module _ {at : ℕ → Answer ℕ} {k from : ℕ} {w₀ w : List ℕ} {got : Fir
       let (l, s) = stopped h in
       sym (total-refused at got.count k _ _ l (total-taken at got-numbers (λ j l. numbers-at j (omega arith)) got.count (omega arith)) s)
 
-  pub total-whole : k ≤ got.count → from + k ≤ length w → (s : ℕ) → s ≡ sum (part w from k) → given s ≡ total at k
-  total-whole h room s e =
+  pub total-whole : got.stop ≡ None → from + k ≤ length w → (s : ℕ) → s ≡ sum (part w from k) → given s ≡ total at k
+  total-whole q room s e =
+      let h = whole q in
       let long = part_length w from k room in
       ap (λ (x : ℕ). given x) (e ∙ ap sum (sym (take_all k (part w from k) (omega arith))))
       ∙ sym (total-taken at (part w from k) (λ j l. f.are j (omega arith) ∙ ap (λ (x : ℕ). given x) (sym (part-get w from k j (omega arith)))) k (omega arith))

@@ -1,13 +1,17 @@
 -- What a stage makes of the lookups below it, as the meaning's `look` says it.
-use Rattle.std.specs.Prelude.{ℕ, ◌+◌, ◌*◌, min, cond, List, ltb, Option, Some, None, unwrap_or}
+use Rattle.std.specs.Prelude.{ℕ, ◌+◌, ◌*◌, min, cond, List, drop, ltb, Option, Some, None, unwrap_or}
 use Rattle.meaning.specs.Answer.{Answer, given, refused, bind}
 use Rattle.meaning.specs.Says.{refusal_number}
-use Rattle.meaning.specs.Stages.{within, seek}
+use Rattle.meaning.specs.Plan.{Plan, plan_at, plan_size}
+use Rattle.meaning.specs.Stages.{within, seek, look}
+use Rattle.meaning.specs.declared.Place.{Place}
 use Rattle.meaning.specs.declared.Refusal.{Refusal}
 use Rattle.meaning.specs.declared.Refusal.TheVariants.{Broken}
 use Rattle.codes.specs.Firsts.{Firsts}
 use Rattle.codes.specs.declared.First.{First}
+use Rattle.stages.specs.Header.{header_in, header_told}
 use Rattle.stages.specs.Runs.{run_fits}
+use Rattle.stages.specs.declared.header.Header.{Header}
 use Rattle.stages.specs.declared.Laid.{Laid}
 use Rattle.stages.specs.declared.Sought.{Sought}
 use Rattle.stages.specs.declared.Sought.TheVariants as sought
@@ -40,6 +44,18 @@ next_refusal n values lengths laid l =
 abbrev pub run_of : First → Sought → Answer ℕ
 run_of got (sought.At j) = given j.number
 run_of got (sought.After s) = refused (refusal_number (stop_of got.stop))
+
+-- the second inner plan of a run stage, behind its first that stands at an offset
+abbrev pub second_at : ℕ → List ℕ → ℕ → Plan
+second_at stages bytes at = plan_at stages bytes (at + plan_size (plan_at stages bytes at))
+
+-- a body's header and the run that holds a place of n, where the runs' lengths are by this plan
+unfoldable pub run_in : Plan → List ℕ → ℕ → ℕ → Answer ((ℕ × ℕ) × ℕ)
+run_in p body n place =
+    bind (header_in n body) (λ h. bind (seek (look p (drop h.1 body) h.0) n place h.0 0 0) (λ j. given (h, j)))
+
+abbrev pub found_told : Header × Place → (ℕ × ℕ) × ℕ
+found_told r = (header_told r.0, r.1.number)
 
 -- the values and the lengths of the first runs stood in work, n and 2n places after the place from which their numbers stand now
 abbrev pub RunsTurned : ℕ → ℕ → ℕ → ℕ → List ℕ → First → First → List ℕ → First → Type 0

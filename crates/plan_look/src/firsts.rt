@@ -13,6 +13,7 @@ use stages::{Laid, header_of, raise_firsts, run_fits, spread, sum_firsts};
 use words::word_at;
 
 // So many numbers of k, and then a refusal where there are fewer.
+#[tactic(auto, unfolding(crate::specs::Turns::ended_by))]
 fn ended(count: usize, k: usize, refusal: Refusal) -> First
     ensures { result ≡ ended_by k count refusal }
 {
@@ -29,6 +30,7 @@ fn ended(count: usize, k: usize, refusal: Refusal) -> First
 }
 
 // What was got, up to a number that is too large.
+#[tactic(auto, unfolding(crate::specs::Turns::stop_at))]
 fn stop_at(got: First, count: usize) -> First
     ensures { result ≡ stop_at got count }
 {
@@ -42,6 +44,7 @@ fn stop_at(got: First, count: usize) -> First
 }
 
 // Why no run follows those that are laid: its length is not there or does not fit, or its value is not there.
+#[tactic(auto, unfolding(crate::specs::Turns::next_refusal))]
 fn next_refusal(
     work: &[u32],
     from: Place,
@@ -149,9 +152,10 @@ fn firsts_runs(
     let third = Place {
         number: first + 2 * n,
     };
-    let few = header.runs.min(k);
+    let runs = header.runs;
+    let few = runs.min(k);
     let after = plan_end(plan, pos, stages);
-    let values = firsts_plan(plan, pos, stages, &body[8..split], header.runs, few, work, second);
-    let lengths = firsts_plan(plan, after, stages, &body[split..], header.runs, few, work, third);
-    spread_runs(work, from, n, k, header.runs, values, lengths)
+    let values = firsts_plan(plan, pos, stages, &body[8..split], runs, few, work, second);
+    let lengths = firsts_plan(plan, after, stages, &body[split..], runs, few, work, third);
+    spread_runs(work, from, n, k, runs, values, lengths)
 }

@@ -2,28 +2,26 @@
 ghost use Rattle.std.specs.Prelude.{◌≡◌, ◌+◌, ◌≤◌};
 ghost use Rattle.meaning.specs.Answer.{number};
 ghost use Rattle.meaning.specs.Limits.{most_stages};
-ghost use Rattle.meaning.specs.Plan.{plan_at, plan_of, runs_at};
+ghost use Rattle.meaning.specs.Plan.{plan_at, plan_of};
 ghost use Rattle.meaning.specs.Says.{says, says_by};
 ghost use Rattle.meaning.specs.Stages.{look, numbers_through, seek, within};
 ghost use Rattle.codes.specs.Firsts.{Looked, total};
 ghost use Rattle.codes.specs.Started.{run_told};
-ghost use Rattle.plan_look.specs.Turns.{run_of};
+ghost use Rattle.plan_look.specs.Turns.{found_told, run_in, run_of, second_at};
 
 use crate::firsts::firsts_plan;
 use codes::{First, lookup_code, seek_code, total_code};
 use judge::stage::{Stage, plan_end, stage_at};
 use meaning::{Offset, Place, Refusal};
-use stages::{Sought, header_of, seek_in, total_of};
+use stages::{Header, Sought, header_of, seek_in, total_of};
 use words::word_at;
 
 // A sum as a number, refused above 2^32 - 1.
+#[tactic(auto, unfolding(meaning::specs::Stages::within))]
 fn number_of(sum: u64) -> Result<u32, Refusal>
     ensures { says result ≡ within sum }
 {
-    if sum <= 4294967295 {
-        return Ok(sum as u32);
-    }
-    Err(Refusal::Broken)
+    u32::try_from(sum).or(Err(Refusal::Broken))
 }
 
 // The sum of the numbers through a place, below a stage: they are collected first.
@@ -49,7 +47,14 @@ fn total_stage(
 }
 
 // The sum of the numbers through a place: a code adds them up as it reads.
-fn total_plan(plan: &[u8], pos: Offset, stages: usize, body: &[u8], n: usize, place: Place) -> Result<u64, Refusal>
+fn total_plan(
+    plan: &[u8],
+    pos: Offset,
+    stages: usize,
+    body: &[u8],
+    n: usize,
+    place: Place,
+) -> Result<u64, Refusal>
     requires { (Looked body.now n place.number) × (stages ≤ 2) }
     ensures { says result ≡ total (look (plan_at stages plan.now pos.byte) body.now n) (place.number + 1) }
 {
@@ -108,9 +113,27 @@ fn find_run(
     seek_code(code, body, runs, n, place)
 }
 
+// A run stage's header and the run that holds a place of n; the stage's two inner plans begin at `pos`, and lengths are by the second.
+fn run_at(
+    plan: &[u8],
+    pos: Offset,
+    stages: usize,
+    body: &[u8],
+    n: usize,
+    place: Place,
+) -> Result<(Header, Place), Refusal>
+    requires { (Looked body.now n place.number) × (stages ≤ 2) }
+    ensures { says_by found_told result ≡ run_in (second_at stages plan.now pos.byte) body.now n place.number }
+{
+    let header = header_of(body, n)?;
+    let split = header.end.byte;
+    let second = plan_end(plan, pos, stages);
+    let run = find_run(plan, second, stages, &body[split..], header.runs, n, place)?;
+    Ok((header, run))
+}
+
 // The refusal of the numbers through a place when they are taken once and no sum is tested, if there is one. It is asked for only where their sum is
 // refused: a number that is too large comes after whatever is cut short or broken behind it.
-#[cycle(taking_taking_runs)]
 fn taking(
     plan: &[u8],
     pos: Offset,
@@ -134,32 +157,15 @@ fn taking(
             total_plan(plan, pos, stages, body, n, place)?;
             Ok(())
         }
-        Stage::Runs(next, less) => taking_runs(plan, next, less, body, n, place),
+        Stage::Runs(next, less) => {
+            let (header, run) = run_at(plan, next, less, body, n, place)?;
+            let values = &body[8..header.end.byte];
+            taking(plan, next, less, values, header.runs, run)
+        }
     }
 }
 
-// By a run stage whose two inner plans begin at `pos`: the lengths through the run that holds the place, then the values through it.
-#[cycle(taking_taking_runs)]
-fn taking_runs(
-    plan: &[u8],
-    pos: Offset,
-    stages: usize,
-    body: &[u8],
-    n: usize,
-    place: Place,
-) -> Result<(), Refusal>
-    requires { (Looked body.now n place.number) × (stages ≤ 2) }
-    ensures { number (says result) ≡ number (numbers_through (runs_at stages plan.now pos.byte) body.now n place.number) }
-{
-    let header = header_of(body, n)?;
-    let split = header.end.byte;
-    let after = plan_end(plan, pos, stages);
-    let run = find_run(plan, after, stages, &body[split..], header.runs, n, place)?;
-    taking(plan, pos, stages, &body[8..split], header.runs, run)
-}
-
 // The number at a place of n.
-#[cycle(lookup_plan_lookup_runs)]
 pub fn lookup_plan(
     plan: &[u8],
     pos: Offset,
@@ -180,7 +186,7 @@ pub fn lookup_plan(
             }
             let m = word_at(body, Offset { byte: 0 });
             let x = lookup_plan(plan, next, less, &body[4..], n, place)?;
-            number_of(u64::from(m) + u64::from(x))
+            m.checked_add(x).ok_or(Refusal::Broken)
         }
         Stage::Differences(next, less) => match total_plan(plan, next, less, body, n, place) {
             Ok(sum) => number_of(sum),
@@ -189,31 +195,16 @@ pub fn lookup_plan(
                 Err(e)
             }
         },
-        Stage::Runs(next, less) => lookup_runs(plan, next, less, body, n, place),
+        Stage::Runs(next, less) => {
+            let (header, run) = run_at(plan, next, less, body, n, place)?;
+            let values = &body[8..header.end.byte];
+            lookup_plan(plan, next, less, values, header.runs, run)
+        }
     }
 }
 
-// By a run stage whose two inner plans begin at `pos`.
-#[cycle(lookup_plan_lookup_runs)]
-fn lookup_runs(
-    plan: &[u8],
-    pos: Offset,
-    stages: usize,
-    body: &[u8],
-    n: usize,
-    place: Place,
-) -> Result<u32, Refusal>
-    requires { (Looked body.now n place.number) × (stages ≤ 2) }
-    ensures { says result ≡ look (runs_at stages plan.now pos.byte) body.now n place.number }
-{
-    let header = header_of(body, n)?;
-    let split = header.end.byte;
-    let second = plan_end(plan, pos, stages);
-    let run = find_run(plan, second, stages, &body[split..], header.runs, n, place)?;
-    lookup_plan(plan, pos, stages, &body[8..split], header.runs, run)
-}
-
 // The number at a place of a column of n numbers, by the column's plan.
+#[tactic(auto, unfolding(meaning::specs::Plan::plan_of))]
 pub fn lookup_list(plan: &[u8], body: &[u8], n: usize, place: Place) -> Result<u32, Refusal>
     requires { Looked body.now n place.number }
     ensures { says result ≡ look (plan_of plan.now) body.now n place.number }

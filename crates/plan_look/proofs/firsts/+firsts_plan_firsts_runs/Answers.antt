@@ -1,6 +1,6 @@
 -- The first numbers by a plan: what the callees ensure is handed to the law of its stage. Assumes nothing.
 use Prim.Native.Nat.{◌-◌}
-use mathlib.Core.Path.{refl, sym, ◌∙◌}
+use mathlib.Core.Path.{refl, sym}
 use native.Mathlib.Omega.{arith}
 use lib.ListN.{length}
 use Rattle.judge.proofs.PlanLaws.{at-bad, at_code, at-reference, at-differences, at-runs}
@@ -18,12 +18,12 @@ firsts_plan-firsts_code-requires t c = code-space c.requires.0 c.requires.1
 
 pub firsts_plan-returns-then-body-lt4 : goal.firsts_plan-returns-then-body-lt4
 firsts_plan-returns-then-body-lt4 t c =
-    let is = at-reference _ _ _ _ _ (sym c.stage_at.ensures ∙ c.in-Reference.is) in
+    let is = at-reference _ _ _ _ _ (sym c.in-Reference.ensures) in
     reference-none _ _ _ _ _ _ _ is.0 c.if-body-lt4.true c.ended-then-body-lt4.ensures
 
 pub firsts_plan-firsts_plan-got-requires : goal.firsts_plan-firsts_plan-got-requires
 firsts_plan-firsts_plan-got-requires t c =
-    let is = at-reference _ _ _ _ _ (sym c.stage_at.ensures ∙ c.in-Reference.is) in
+    let is = at-reference _ _ _ _ _ (sym c.in-Reference.ensures) in
     (omega arith, (fits-inner c.requires.0 is.1 (part-short c.args.body.now 4 (length c.args.body.now - 4)), c.requires.1))
 
 pub firsts_plan-raise_firsts-count-requires : goal.firsts_plan-raise_firsts-count-requires
@@ -35,7 +35,7 @@ firsts_plan-raise_firsts-count-requires t c =
 
 pub firsts_plan-firsts_plan-got-requires-in-Differences : goal.firsts_plan-firsts_plan-got-requires-in-Differences
 firsts_plan-firsts_plan-got-requires-in-Differences t c =
-    let is = at-differences _ _ _ _ _ (sym c.stage_at.ensures ∙ c.in-Differences.is) in
+    let is = at-differences _ _ _ _ _ (sym c.in-Differences.ensures) in
     (omega arith, (fits-inner c.requires.0 is.1 (omega arith), c.requires.1))
 
 pub firsts_plan-sum_firsts-count-requires : goal.firsts_plan-sum_firsts-count-requires
@@ -47,20 +47,20 @@ firsts_plan-sum_firsts-count-requires t c =
 
 pub firsts_plan-firsts_runs-requires : goal.firsts_plan-firsts_runs-requires
 firsts_plan-firsts_runs-requires t c =
-    let is = at-runs _ _ _ _ _ (sym c.stage_at.ensures ∙ c.in-Runs.is) in
+    let is = at-runs _ _ _ _ _ (sym c.in-Runs.ensures) in
     (omega arith, (fits-runs c.requires.0 is.1, c.requires.1))
 
 pub firsts_plan-returns-in-Bad : goal.firsts_plan-returns-in-Bad
-firsts_plan-returns-in-Bad t c = bad-firsts _ _ _ _ _ _ (at-bad _ _ _ (sym c.stage_at.ensures ∙ c.in-Bad.is)) c.ended.ensures
+firsts_plan-returns-in-Bad t c = bad-firsts _ _ _ _ _ _ (at-bad _ _ _ (sym c.in-Bad.ensures)) c.ended.ensures
 
 pub firsts_plan-returns-in-Code : goal.firsts_plan-returns-in-Code
 firsts_plan-returns-in-Code t c =
-    let is = at_code _ _ _ _ (sym c.stage_at.ensures ∙ c.in-Code.is) in
+    let is = at_code _ _ _ _ (sym c.in-Code.ensures) in
     code-firsts _ _ _ _ _ _ _ _ _ is.0 c.firsts_code.ensures
 
 pub firsts_plan-returns-else-body-lt4 : goal.firsts_plan-returns-else-body-lt4
 firsts_plan-returns-else-body-lt4 t c =
-    let is = at-reference _ _ _ _ _ (sym c.stage_at.ensures ∙ c.in-Reference.is) in
+    let is = at-reference _ _ _ _ _ (sym c.in-Reference.ensures) in
     let room = fits-list c.requires.0 in
     let same = c.firsts_plan-got.auto.work in
     let few = c.firsts_plan-got.ensures.most in
@@ -70,7 +70,7 @@ firsts_plan-returns-else-body-lt4 t c =
 
 pub firsts_plan-returns-in-Differences : goal.firsts_plan-returns-in-Differences
 firsts_plan-returns-in-Differences t c =
-    let is = at-differences _ _ _ _ _ (sym c.stage_at.ensures ∙ c.in-Differences.is) in
+    let is = at-differences _ _ _ _ _ (sym c.in-Differences.ensures) in
     let room = fits-list c.requires.0 in
     let same = c.firsts_plan-got-in-Differences.auto.work in
     let few = c.firsts_plan-got-in-Differences.ensures.most in
@@ -79,7 +79,7 @@ firsts_plan-returns-in-Differences t c =
 
 pub firsts_plan-returns-in-Runs : goal.firsts_plan-returns-in-Runs
 firsts_plan-returns-in-Runs t c =
-    let is = at-runs _ _ _ _ _ (sym c.stage_at.ensures ∙ c.in-Runs.is) in
+    let is = at-runs _ _ _ _ _ (sym c.in-Runs.ensures) in
     same-firsts _ _ _ _ _ _ _ _ _ is.0 c.firsts_runs.ensures
 
 -- ---- firsts_runs

@@ -2,7 +2,7 @@
 use mathlib.Core.Path.{refl}
 use native.Mathlib.Omega.{arith}
 use Rattle.plan_look.proofs.Lookups.{look-fits}
-use Rattle.plan_look.proofs.Turns.{total-fewer, whole, total-whole}
+use Rattle.plan_look.proofs.Turns.{total-fewer, total-whole}
 use Rattle.plan_look.proofs.lookup.total_stage.Goals as goal
 
 pub firsts_plan-got-requires : goal.firsts_plan-got-requires
@@ -15,5 +15,5 @@ returns-in-Some c =
 
 pub returns : goal.returns
 returns c =
-    total-whole c.firsts_plan-got.ensures (whole c.firsts_plan-got.ensures c.in_default.is)
+    total-whole c.firsts_plan-got.ensures c.in_default.is
     (omega (arith, c.requires.0.inside, c.requires.0.few)) _ c.total_of.ensures.0
