@@ -1,10 +1,11 @@
 -- Eight numbers at once: those of a block of small numbers, which are its data bytes, and those that are put back. Assumes nothing.
-use Prim.Native.Nat.{ℕ, zero, suc, ◌+◌, ◌≤◌, ◌<◌}
-use mathlib.Core.Path.{◌≡◌, refl, sym, ap, ap₂, ◌∙◌}
-use mathlib.Core.List.{List, [], ◌∷◌, ◌++◌}
+use Prim.Native.Nat.{ℕ, zero, suc, ◌+◌, ◌≤◌}
+use mathlib.Core.Path.{◌≡◌, refl, sym, ap, ◌∙◌}
+use mathlib.Core.List.{List, [], ◌∷◌}
 use native.Mathlib.Omega.{arith}
+use Rattle.std.specs.Prelude.{Option, Some, None, IsNone}
 use lib.ListN.{length, get_or, take, drop, set, replicate, drop_of_length-le}
-use lib.Seq.{sets, length-sets, drop-cons, set-get_or, set-set}
+use lib.Seq.{sets, drop-cons, set-get_or, set-set}
 use borrow.Author.Tests.{eq-eqb}
 use Rattle.meaning.specs.Answer.{given}
 use Rattle.meaning.specs.Bytes.{number_of}
@@ -13,40 +14,13 @@ use Rattle.meaning.specs.Bits.{bits_low}
 use Rattle.meaning.specs.G8IU.{lengths_by, block_lengths}
 use Rattle.meaning.specs.Lists.{all, sum}
 use Rattle.meaning.specs.Places.{Below, part}
+use Rattle.meaning.specs.declared.Place.{Place}
 use Rattle.meaning.proofs.Bounds.{below-take, below-drop}
-use Rattle.meaning.proofs.Stores.{sets-snoc, set-sets, part-sets}
-use Rattle.leaves.proofs.Parts.{part_length, part-snoc}
+use Rattle.meaning.proofs.Stores.{set-sets}
+use Rattle.leaves.proofs.Parts.{part_length}
 use Rattle.g8iu.specs.Blocks.{data_at, Ending, BlockIs, BegunIs}
 use Rattle.g8iu.proofs.Masks.{length-1}
 use Rattle.g8iu.proofs.Numbers.{or-given, end-some}
-
--- ---- i of the eight elements of a list from an offset on are stored
-pub record EightSo (list : List ℕ) (from : ℕ) (out₀ : List ℕ) (to : ℕ) (out : List ℕ) (i : ℕ) : Type 0 where
-  pub inside : from + 8 ≤ length list
-  pub room : to + 8 ≤ length out₀
-  pub high : i ≤ 8
-  pub here : out ≡ sets out₀ to (part list from i)
-
-pub eight-start : {list : List ℕ} {from : ℕ} {out₀ : List ℕ} {to : ℕ} → from + 8 ≤ length list → to + 8 ≤ length out₀ → EightSo list from out₀ to out₀ 0
-eight-start inside room = record { inside = inside; room = room; high = omega arith; here = refl }
-
-module _ {list : List ℕ} {from : ℕ} {out₀ : List ℕ} {to : ℕ} {out : List ℕ} {i : ℕ} (so : EightSo list from out₀ to out i) where
-  pub eight-long : length out ≡ length out₀
-  eight-long = ap length so.here ∙ length-sets out₀ to (part list from i)
-
-  pub eight-turn : i < 8 → {x : ℕ} → x ≡ get_or list (from + i) 0 → EightSo list from out₀ to (set out (to + i) x) (i + 1)
-  eight-turn h {x} is =
-      let n = part_length list from i (omega (arith, so.inside)) in
-      let p : part list from i ++ (x ∷ []) ≡ part list from (i + 1) = rw is (sym (part-snoc list from i (omega (arith, so.inside)))) in
-      record {
-        inside = so.inside;
-        room = so.room;
-        high = omega arith;
-        here = ap₂ (λ (r : List ℕ) (k : ℕ). set r (to + k) x) so.here (sym n) ∙ sets-snoc (part list from i) x out₀ to ∙ ap (sets out₀ to) p;
-      }
-
-  pub eight-end : 8 ≤ i → out ≡ sets out₀ to (part list from 8)
-  eight-end h = let e : i ≡ 8 = omega (arith, so.high) in rw e at so.here
 
 -- ---- the block of control byte 0
 eight-lengths : block_lengths 0 ≡ replicate 8 1
@@ -61,7 +35,8 @@ bytes-data (b ∷ bs) h =
     rw (n, eq-eqb (byte_length b) 1 (length-1 b (h 0)), bytes-data bs (λ i. h (suc i)))
 
 pub eight-block : {body : List ℕ} {at ends : ℕ} {most least out : List ℕ} {to : ℕ} → Ending body at ends most least out to → Below 256 body → ends ≡ 255
-    → {out' : List ℕ} → out' ≡ sets out to (data_at body at) → BlockIs body at to out out' (to + 8)
+    → {out' : List ℕ} → out' ≡ sets out to (data_at body at)
+    → BlockIs body at to out out' (Some (record { number = to + 8 }))
 unfolding sum all
 eight-block {body} {at} {to = to} asks small e here =
     let z : get_or body at 0 ≡ 0 = omega (arith, asks.zeros, small at) in
@@ -72,7 +47,7 @@ eight-block {body} {at} {to = to} asks small e here =
       numbers = d;
       are = rw (z, eight-lengths, drop_of_length-le d {i = 8} (omega arith), f) (or-given d (omega arith));
       here = here;
-      ends = sym (ap (λ (k : ℕ). to + k) n) ∙ end-some to d (omega arith);
+      ends = end-some to d (omega arith) (ap (λ (k : ℕ). to + k) (sym n));
     }
 
 -- ---- stores that are undone
@@ -89,17 +64,18 @@ same (suc k) l a h =
     ap (λ (d : List ℕ). sets l a (take (suc k) d)) (drop-cons l a 0 (omega arith)) ∙ ap (λ (m : List ℕ). sets m (suc a) (part l (suc a) k)) (set-get_or l a 0)
     ∙ same k l (suc a) (omega arith)
 
-module _ {body : List ℕ} {at ends : ℕ} {most least out : List ℕ} {to : ℕ} (asks : Ending body at ends most least out to) {out' : List ℕ} {r : ℕ}
-    (is : BegunIs body at to out out' r) where
-  -- what was saved before, put back where the block was at fault
-  pub undone : r ≡ 0 → {old out'' : List ℕ} → old ≡ sets (replicate 8 0) 0 (part out to 8)
-      → out'' ≡ sets out' to (part old 0 8) → BlockIs body at to out out'' r
-  undone e {old} s h =
-      let n : length (part out to 8) ≡ 8 = part_length out to 8 asks.fits in
-      let kept : part old 0 8 ≡ part out to 8 = rw s (rw n at (part-sets (part out to 8) (replicate 8 0) 0 (omega arith))) in
-      record {
-        numbers = [];
-        are = is.faulty e;
-        here = h ∙ rw (kept, is.here) (over is.begun (part out to 8) out to (omega (arith, is.few)) ∙ same 8 out to asks.fits);
-        ends = e;
-      }
+none_is : (r : Option Place) → IsNone r → r ≡ None
+none_is None e = refl
+none_is (Some q) e = cc
+
+-- what was saved before, put back where the block was at fault
+pub undone : {body : List ℕ} {at ends : ℕ} {most least out : List ℕ} {to : ℕ} → Ending body at ends most least out to → {out' : List ℕ} {r : Option Place}
+    → BegunIs body at to out out' r → IsNone r → {out'' : List ℕ} → out'' ≡ sets out' to (part out to 8) → BlockIs body at to out out'' r
+undone {out = out} {to} asks {r = r} is e h =
+    let n : length (part out to 8) ≡ 8 = part_length out to 8 asks.fits in
+    record {
+      numbers = [];
+      are = is.faulty e;
+      here = h ∙ rw is.here (over is.begun (part out to 8) out to (omega (arith, is.few)) ∙ same 8 out to asks.fits);
+      ends = none_is r e;
+    }

@@ -4,6 +4,7 @@ use mathlib.Core.Path.{◌≡◌, refl, sym, ap, ap₂, ◌∙◌}
 use mathlib.Core.Bool.{Bool, true, false}
 use mathlib.Core.List.{List, [], ◌∷◌, ◌++◌, append_assoc, append-nil}
 use native.Mathlib.Omega.{arith}
+use Rattle.std.specs.Prelude.{Some, None}
 use lib.Bits.{bit_and}
 use lib.Count.{count_trailing_zeros}
 use lib.Dec.{eqb}
@@ -17,6 +18,7 @@ use Rattle.meaning.specs.DataBytes.{byte_length, data_in}
 use Rattle.meaning.specs.Limits.{broken}
 use Rattle.meaning.specs.Lists.{all, sum}
 use Rattle.meaning.specs.Places.{Below}
+use Rattle.meaning.specs.declared.Place.{Place}
 use Rattle.meaning.proofs.Answers.{need-refused}
 use Rattle.meaning.proofs.Bounds.{below-take, below-drop}
 use Rattle.meaning.proofs.Stores.{sets-snoc}
@@ -51,17 +53,17 @@ join_more : (xs : List ℕ) (x : ℕ) (m : Answer (List ℕ)) → join xs (join 
 join_more xs x (given ys) = ap (λ (l : List ℕ). given l) (sym (append_assoc xs (x ∷ []) ys))
 join_more xs x (refused e) = refl
 
-pub or-none : (to : ℕ) (xs : List ℕ) → end_of to xs ≡ 0 → xs ≡ []
+pub or-none : (to : ℕ) (xs : List ℕ) → end_of to xs ≡ None → xs ≡ []
 or-none to [] e = refl
-or-none to (x ∷ xs) e = absurd (omega arith)
+or-none to (x ∷ xs) e = cc
 
-pub or_some : (to : ℕ) (xs : List ℕ) → (end_of to xs ≡ 0 → ⊥) → (0 < length xs) × (end_of to xs ≡ to + length xs)
-or_some to [] h = absurd (h refl)
-or_some to (x ∷ xs) h = (omega arith, refl)
+pub or_some : (to : ℕ) (xs : List ℕ) {q : Place} → end_of to xs ≡ Some q → (0 < length xs) × (q.number ≡ to + length xs)
+or_some to [] h = absurd (cc h)
+or_some to (x ∷ xs) {q} h = let e : record { number = to + length (x ∷ xs) } ≡ q = cc in (omega arith, sym (ap (λ (p : Place). p.number) e))
 
-pub end-some : (to : ℕ) (xs : List ℕ) → 0 < length xs → to + length xs ≡ end_of to xs
-end-some to [] h = absurd (omega arith)
-end-some to (x ∷ xs) h = refl
+pub end-some : (to : ℕ) (xs : List ℕ) → 0 < length xs → {n : ℕ} → n ≡ to + length xs → Some (record { number = n }) ≡ end_of to xs
+end-some to [] h e = absurd (omega arith)
+end-some to (x ∷ xs) h e = rw e
 
 pub or-given : (xs : List ℕ) → 0 < length xs → given xs ≡ or_fault xs
 or-given [] h = absurd (omega arith)
@@ -106,8 +108,8 @@ module _ {body : List ℕ} {at ends : ℕ} {most least out₀ : List ℕ} {to : 
   numbers-long = ap length so.here ∙ length-sets out₀ to so.taken
 
   -- a block at fault
-  at-fault : numbers_at body at ≡ refused broken → BegunIs body at to out₀ out 0
-  at-fault e = record { begun = so.taken; few = omega (arith, so.few); here = so.here; whole = λ h. absurd (h refl); faulty = λ h. e }
+  at-fault : numbers_at body at ≡ refused broken → BegunIs body at to out₀ out None
+  at-fault e = record { begun = so.taken; few = omega (arith, so.few); here = so.here; whole = λ h. absurd (cc h); faulty = λ h. e }
 
   -- a number is still to come
   module _ (more : coming ≡ 0 → ⊥) where
@@ -133,7 +135,7 @@ module _ {body : List ℕ} {at ends : ℕ} {most least out₀ : List ℕ} {to : 
     pub numbers-small : bit_and rest (get_or most f 0) < 2 ^ 32
     numbers-small = rw so.asks.highest (masked_small rest f numbers-index)
 
-    pub numbers-fault : bit_and rest (get_or most f 0) < get_or least f 0 → BegunIs body at to out₀ out 0
+    pub numbers-fault : bit_and rest (get_or most f 0) < get_or least f 0 → BegunIs body at to out₀ out None
     numbers-fault l =
         let e = number_short so.bytes so.bound f numbers-index (rw (so.left, so.asks.highest, so.asks.lowest) at l) in
         at-fault (so.numbers ∙ rw (first.is, first-refused (f + 1) later so.bytes e))
@@ -178,10 +180,10 @@ module _ {body : List ℕ} {at ends : ℕ} {most least out₀ : List ℕ} {to : 
     unfolding data_in sum
     waste-is = so.numbers ∙ rw (none, lengths_none (length so.bytes) (omega (arith, so.few)))
 
-    pub numbers-waste : (rest ≡ 0 → ⊥) → BegunIs body at to out₀ out 0
+    pub numbers-waste : (rest ≡ 0 → ⊥) → BegunIs body at to out₀ out None
     numbers-waste h = at-fault (waste-is ∙ rw (clear-false so.bytes (rw so.left at h)))
 
-    pub numbers-end : rest ≡ 0 → BegunIs body at to out₀ out next
+    pub numbers-end : rest ≡ 0 → BegunIs body at to out₀ out (Some (record { number = next }))
     numbers-end h =
         let some = so.some none in
         let e : join so.taken (need (all (eqb 0) so.bytes) broken (given [])) ≡ or_fault so.taken =
@@ -190,6 +192,6 @@ module _ {body : List ℕ} {at ends : ℕ} {most least out₀ : List ℕ} {to : 
           begun = so.taken;
           few = omega (arith, so.few);
           here = so.here;
-          whole = λ _. record { numbers = so.taken; are = waste-is ∙ e; here = so.here; ends = so.counted ∙ end-some to so.taken some };
-          faulty = λ q. absurd (omega (arith, so.counted));
+          whole = λ _. record { numbers = so.taken; are = waste-is ∙ e; here = so.here; ends = end-some to so.taken some so.counted };
+          faulty = λ q. absurd (cc q);
         }

@@ -6,7 +6,7 @@ use mathlib.Core.List.{List, [], ◌∷◌, map}
 use native.Mathlib.Nat.{sub-zero}
 use native.Mathlib.Omega.{arith}
 use lib.Count.{ones, count_leading_zeros, count_trailing_zeros, ones-ones}
-use Rattle.std.specs.Prelude.{Ok, Err}
+use Rattle.std.specs.Prelude.{Option, Some, None, Ok, Err}
 use lib.Dec.{leb, eqb}
 use lib.ListN.{length, get_or, take, drop, replicate, length-replicate}
 use lib.Seq.{sets, sets-eq, drop-append_seam}
@@ -19,6 +19,7 @@ use Rattle.meaning.specs.Lists.{all, sum}
 use Rattle.meaning.specs.Places.{UnitIs}
 use Rattle.meaning.specs.Says.{refusal_number}
 use Rattle.meaning.specs.Positions.{at_byte}
+use Rattle.meaning.specs.declared.Place.{Place}
 use Rattle.meaning.specs.declared.Position.{Position}
 use Rattle.meaning.specs.declared.Refusal.{Refusal}
 use Rattle.meaning.specs.declared.UnitRead.{UnitRead}
@@ -163,21 +164,21 @@ module _ {body : List ℕ} {left : ℕ} {p : Position} (so : Standing body left 
   unit-asks e =
       record { inside = so.inside; zeros = e; some = rw e (allows-some so.byte left so.allows); highest = refl; lowest = refl; fits = omega arith }
 
-  module _ {numbers : List ℕ} {count : ℕ} (is : BlockIs body p.head.byte 0 (replicate unit_places 0) numbers count) where
-    pub unit-fault : count ≡ 0 → unit_g8iu body left p ≡ refused broken
+  module _ {numbers : List ℕ} {r : Option Place} (is : BlockIs body p.head.byte 0 (replicate unit_places 0) numbers r) where
+    pub unit-fault : r ≡ None → unit_g8iu body left p ≡ refused broken
     unit-fault e = unit-numbers body left p so.inside so.allows (refused broken) (is.are ∙ ap or_fault (or-none 0 is.numbers (sym is.ends ∙ e)))
 
-    pub unit-next : (count ≡ 0 → ⊥) → {next : Position} → next ≡ at_byte (p.head.byte + 9)
-        → UnitIs (unit_g8iu body left p) (Ok (record { next = next; count = count; numbers = numbers }))
-    unit-next some {next} there =
+    pub unit-next : {q : Place} → r ≡ Some q → {next : Position} → next ≡ at_byte (p.head.byte + 9)
+        → UnitIs (unit_g8iu body left p) (Ok (record { next = next; count = q.number; numbers = numbers }))
+    unit-next {q} some {next} there =
         let xs = is.numbers in
-        let (many, after) = or_some 0 xs (λ e. some (is.ends ∙ e)) in
+        let (many, after) = or_some 0 xs (sym is.ends ∙ some) in
         let g : numbers_at body p.head.byte ≡ given xs = is.are ∙ sym (or-given xs many) in
         let few = block-few body p.head.byte so.byte xs g in
-        let k : count ≡ length xs = omega (arith, is.ends) in
+        let k : q.number ≡ length xs = omega arith in
         let (t, d) = first_of xs unit_places (omega arith) in
         record {
           told = rw (there, k, is.here, t) (sym (unit-numbers body left p so.inside so.allows (given xs) g));
-          few = λ u q. let n : count ≡ u.count = cc in omega arith;
-          clear = λ u q. let v : ◌≡◌ {A = UnitRead} (record { next = next; count = count; numbers = numbers }) u = cc in rw (← v, k, is.here) d;
+          few = λ u e. let n : q.number ≡ u.count = cc in omega arith;
+          clear = λ u e. let v : ◌≡◌ {A = UnitRead} (record { next = next; count = q.number; numbers = numbers }) u = cc in rw (← v, k, is.here) d;
         }

@@ -3,6 +3,7 @@ use Prim.Native.Nat.{ℕ, ◌+◌, ◌-◌, ◌*◌, ◌/◌, ◌≤◌, ◌<◌
 use mathlib.Core.Path.{◌≡◌, refl, sym, ap, ◌∙◌}
 use mathlib.Core.List.{List}
 use native.Mathlib.Omega.{arith}
+use Rattle.std.specs.Prelude.{Option, Some, None}
 use lib.Count.{count_leading_zeros}
 use lib.ListN.{length, get_or}
 use lib.Seq.{sets}
@@ -12,10 +13,11 @@ use Rattle.meaning.specs.DataBytes.{data_bytes}
 use Rattle.meaning.specs.G8IU.{unit_g8iu}
 use Rattle.meaning.specs.Places.{Below, Target, Took, Ends}
 use Rattle.meaning.specs.Positions.{at_byte}
+use Rattle.meaning.specs.declared.Place.{Place}
 use Rattle.meaning.specs.declared.Position.{Position}
 use Rattle.meaning.specs.declared.Taken.{Taken}
 use Rattle.meaning.proofs.Taking.{Takes, takes-start, takes-turn, takes-long, takes-end}
-use Rattle.g8iu.specs.Blocks.{numbers_at, end_of, most_of, least_of, Ending, BlockIs, Plain}
+use Rattle.g8iu.specs.Blocks.{numbers_at, most_of, least_of, Ending, BlockIs, Plain}
 use Rattle.g8iu.proofs.Controls.{control-is}
 use Rattle.g8iu.proofs.Numbers.{or-none, or_some, or-given}
 use Rattle.g8iu.proofs.Spares.{fresh, spare_of}
@@ -34,7 +36,7 @@ pub record Going (body : List ℕ) (left : ℕ) (p : Position) (w₀ : List ℕ)
   pub fits : end ≤ first + (room - 7)
 
 pub going_start : {body : List ℕ} {left : ℕ} {p : Position} {w₀ : List ℕ} {first room n k : ℕ} → Below 256 body → Target body w₀ first room
-    → n ≡ min left room → k ≡ min n 7 → Going body left p w₀ first room (first + (n - k)) w₀ first p.head.byte 0
+    → n ≡ min left room → k ≡ n - 7 → Going body left p w₀ first room (first + k) w₀ first p.head.byte 0
 unfolding unit_g8iu
 going_start {body} {left} {p} {w₀} {first} b t e l =
     let z : first - first ≡ 0 = omega arith in
@@ -78,19 +80,22 @@ module _ {body : List ℕ} {left : ℕ} {p : Position} {w₀ : List ℕ} {first 
     pub going-spare : 24 ≤ count_leading_zeros 32 ends
     going-spare = let k = control-is (get_or body to 0) (so.bytes to) in rw plain.zeros (omega (arith, k.top, k.within))
 
-    module _ {w' : List ℕ} {after : ℕ} (is : BlockIs body to next w w' after) where
+    module _ {w' : List ℕ} {r : Option Place} (is : BlockIs body to next w w' r) where
       abbrev xs : List ℕ
       xs = is.numbers
 
       -- a block at fault is not taken, and leaves nothing
-      pub going-fault : after ≡ 0 → Going body left p w₀ first room end w' next to spare
+      pub going-fault : r ≡ None → Going body left p w₀ first room end w' next to spare
       going-fault e =
           let same : w' ≡ w = is.here ∙ ap (sets w next) (or-none next xs (sym is.ends ∙ e)) in
           rw same so
 
-      module _ (some : after ≡ 0 → ⊥) where
-        many : (0 < length xs) × (end_of next xs ≡ next + length xs)
-        many = or_some next xs (λ e. some (is.ends ∙ e))
+      module _ {q : Place} (some : r ≡ Some q) where
+        abbrev after : ℕ
+        after = q.number
+
+        many : (0 < length xs) × (after ≡ next + length xs)
+        many = or_some next xs (sym is.ends ∙ some)
 
         byte : get_or body to 0 < 256
         byte = so.bytes to
@@ -99,7 +104,7 @@ module _ {body : List ℕ} {left : ℕ} {p : Position} {w₀ : List ℕ} {first 
         given_is = is.are ∙ sym (or-given xs many.0)
 
         going-after : (next < after) × (after ≤ first + room)
-        going-after = omega (arith, is.ends, many, block-few body to byte xs given_is, so.fits)
+        going-after = omega (arith, many, block-few body to byte xs given_is, so.fits)
 
         pub going_less : end - after < end - next
         going_less = let (past, within) = going-after in omega arith
@@ -107,7 +112,7 @@ module _ {body : List ℕ} {left : ℕ} {p : Position} {w₀ : List ℕ} {first 
         pub going-turn : Going body left p w₀ first room end w' after (to + 9) (count_leading_zeros 32 ends - 24)
         going-turn =
             let i = next - first in
-            let k : after - first ≡ i + length xs = omega (arith, is.ends, many, so.low) in
+            let k : after - first ≡ i + length xs = omega (arith, many, so.low) in
             let n : first + i ≡ next = omega (arith, so.low) in
             let z = plain.zeros in
             let allows = allows-plain {c = get_or body to 0} byte (left - i) (rw z at plain.full) (omega (arith, so.most, so.low)) in

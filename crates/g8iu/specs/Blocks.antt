@@ -1,5 +1,5 @@
 -- One block, as the helper functions take it from a body or put it to an output.
-use Rattle.std.specs.Prelude.{ℕ, ◌+◌, ◌-◌, ◌≤◌, ◌<◌, ◌≡◌, Bool, false, ◌&&◌, ◌||◌, List, [], ◌∷◌, leb, eqb, length, get_or, take, drop}
+use Rattle.std.specs.Prelude.{ℕ, ◌+◌, ◌-◌, ◌≤◌, ◌<◌, ◌≡◌, Bool, false, ◌&&◌, ◌||◌, List, [], ◌∷◌, leb, eqb, length, get_or, take, drop, Option, Some, None, IsSome, IsNone}
 use Rattle.std.specs.Int.Count.{count_trailing_zeros}
 use Rattle.std.proofs.lemmas.List.Edits.{sets}
 use Rattle.meaning.specs.Answer.{Answer, given, refused, need}
@@ -8,6 +8,7 @@ use Rattle.meaning.specs.G8IU.{fits, block, block_lengths}
 use Rattle.meaning.specs.Limits.{broken}
 use Rattle.meaning.specs.Lists.{all, sum}
 use Rattle.meaning.specs.Places.{part}
+use Rattle.meaning.specs.declared.Place.{Place}
 
 -- the lengths that a control byte says are allowed where `left` numbers are still to come: one at least, none beyond the list, and waste of at most 3
 -- unless the list ends there
@@ -49,25 +50,25 @@ pub record Ending (body : List ℕ) (at ends : ℕ) (most least out : List ℕ) 
   pub lowest : least ≡ least_of
   pub fits : to + 8 ≤ length out
 
--- the place after the numbers from another on; 0 where there are none
-abbrev pub end_of : ℕ → List ℕ → ℕ
-end_of to [] = 0
-end_of to (x ∷ xs) = to + length (x ∷ xs)
+-- the place after the numbers from another on, where there are any
+abbrev pub end_of : ℕ → List ℕ → Option Place
+end_of to [] = None
+end_of to (x ∷ xs) = Some (record { number = to + length (x ∷ xs) })
 
 -- a block's numbers were stored from a place on, and r is the place after them; of a block at fault there are none
-pub record BlockIs (body : List ℕ) (at to : ℕ) (out out' : List ℕ) (r : ℕ) : Type 0 where
+pub record BlockIs (body : List ℕ) (at to : ℕ) (out out' : List ℕ) (r : Option Place) : Type 0 where
   pub numbers : List ℕ
   pub are : numbers_at body at ≡ or_fault numbers
   pub here : out' ≡ sets out to numbers
   pub ends : r ≡ end_of to numbers
 
 -- the same, but of a block at fault some may have been stored all the same
-pub record BegunIs (body : List ℕ) (at to : ℕ) (out out' : List ℕ) (r : ℕ) : Type 0 where
+pub record BegunIs (body : List ℕ) (at to : ℕ) (out out' : List ℕ) (r : Option Place) : Type 0 where
   pub begun : List ℕ
   pub few : length begun ≤ 8
   pub here : out' ≡ sets out to begun
-  pub whole : (r ≡ 0 → ⊥) → BlockIs body at to out out' r
-  pub faulty : r ≡ 0 → numbers_at body at ≡ refused broken
+  pub whole : IsSome r → BlockIs body at to out out' r
+  pub faulty : IsNone r → numbers_at body at ≡ refused broken
 
 -- the ends of a plain block at an offset: its waste is at most 3, and its first number did not fit into what the block before left spare
 pub record Plain (body : List ℕ) (at spare ends : ℕ) : Type 0 where

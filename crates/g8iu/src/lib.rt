@@ -1,16 +1,15 @@
 // Code 3, G8IU: blocks of a control byte and 8 data bytes. Bit i is 0 when data byte i ends a number.
 #![tactic(auto)]
 
-ghost use Rattle.std.specs.Prelude.{◌≡◌, ◌-◌, ◌/◌, ◌≤◌, length};
+ghost use Rattle.std.specs.Prelude.{◌≡◌, ◌≤◌, length, MatchOption};
 ghost use Rattle.meaning.specs.Codes.{code_g8iu};
 ghost use Rattle.meaning.specs.G8IU.{block_lengths};
 ghost use Rattle.meaning.specs.Limits.{most_bytes, unit_places};
-ghost use Rattle.meaning.specs.Places.{Source, Target, Wrote, UnitIs, Took, Ends, Spare};
-ghost use Rattle.meaning.specs.Positions.{at_byte};
+ghost use Rattle.meaning.specs.Places.{Source, Target, Wrote, UnitIs, Took, Spare};
 ghost use Rattle.g8iu.specs.Blocks.{allowed, Plain};
 
 use crate::putting::put_block;
-use crate::taking::{LEAST, MOST, has_block, take_ends};
+use crate::taking::{SIZES, has_block, take_ends};
 use leaves::{from_byte, taken};
 use meaning::{Offset, Place, Position, Refusal, Taken, UnitRead};
 use words::data_length;
@@ -39,16 +38,10 @@ fn is_allowed(control: u8, left: usize) -> bool
     ensures { result ≡ allowed left (block_lengths control) }
 {
     let count = (8 - u8::count_ones(control)) as usize;
-    if count < 1 {
+    if count < 1 || left < count {
         return false;
     }
-    if left < count {
-        return false;
-    }
-    if count == left {
-        return true;
-    }
-    16 <= 255 - u32::from(control)
+    count == left || 16 <= 255 - u32::from(control)
 }
 
 // Reads the unit at a position: a block.
@@ -65,57 +58,33 @@ pub fn unit(body: &[u8], left: usize, at: Position) -> Result<UnitRead, Refusal>
     if !is_allowed(control, left) {
         return Err(Refusal::Broken);
     }
-    let most = MOST;
-    let least = LEAST;
+    let sizes = SIZES;
     let mut numbers = [0u32; 16];
     let ends = 255 - u32::from(control);
-    let count = take_ends(
-        body,
-        head,
-        ends,
-        &most,
-        &least,
-        &mut numbers,
-        Place { number: 0 },
-    );
-    if count.number == 0 {
+    let start = Place { number: 0 };
+    let Some(end) = take_ends(body, head, ends, &sizes, &mut numbers, start) else {
         return Err(Refusal::Broken);
-    }
+    };
     Ok(UnitRead {
         next: from_byte(Offset { byte: first + 9 }),
-        count: count.number,
+        count: end.number,
         numbers,
     })
 }
 
-// The ends of a plain block: 0 where there is none at the offset, where more than 3 of its bytes are waste, and where its first number would have
-// fitted into what the block before left spare.
-fn plain_ends(body: &[u8], at: Offset, spare: usize) -> u32
-    ensures { (result ≡ 0 → ⊥) → Plain body.now at.byte spare result }
+// The ends of a plain block: none where there is no block at the offset, where more than 3 of its bytes are waste, and where its first number would
+// have fitted into what the block before left spare.
+fn plain_ends(body: &[u8], at: Offset, spare: usize) -> Option<u32>
+    ensures { MatchOption result (Unit {0}) (λ ends. Plain body.now at.byte spare ends) }
 {
     if !has_block(body, at) {
-        return 0;
+        return None;
     }
-    let here = at.byte;
-    let ends = 255 - u32::from(body[here]);
-    if ends < 16 {
-        return 0;
+    let ends = 255 - u32::from(body[at.byte]);
+    if ends < 16 || (u32::trailing_zeros(ends) as usize) < spare {
+        return None;
     }
-    if (u32::trailing_zeros(ends) as usize) < spare {
-        return 0;
-    }
-    ends
-}
-
-// Blocks were taken, of 9 bytes each: from a place on up to another, and from a position on up to an offset.
-fn reached(at: Position, from: Place, next: Place, to: Offset, spare: usize) -> Taken
-    requires { (from.number ≤ next.number) × (at.head.byte ≤ to.byte) }
-    ensures { Ends at (next.number - from.number) ((to.byte - at.head.byte) / 9) spare (at_byte to.byte) result }
-{
-    let head = at.head;
-    let count = next.number - from.number;
-    let units = (to.byte - head.byte) / 9;
-    taken(at, count, units, spare, from_byte(to))
+    Some(ends)
 }
 
 // Takes blocks from a position on into work, as long as they are plain, at least 8 numbers are still to come and there is room for 8.
@@ -130,31 +99,29 @@ pub fn take(
     requires { Target body.now work.old from.number room }
     ensures { Took code_g8iu body.now left at room from.number work.old work.new result }
 {
-    let most = MOST;
-    let least = LEAST;
+    let sizes = SIZES;
     let head = at.head;
     let first = from.number;
-    let n = left.min(room);
     // From there on fewer than 8 numbers are still to come, or there is room for fewer.
-    let end = first + (n - n.min(7));
+    let end = first + left.min(room).saturating_sub(7);
     let mut next = from;
     let mut to = head.byte;
     let mut spare: usize = 0;
     while next.number < end {
         let here = Offset { byte: to };
-        let ends = plain_ends(body, here, spare);
-        if ends == 0 {
-            return reached(at, from, next, here, spare);
-        }
-        let after = take_ends(body, here, ends, &most, &least, work, next);
-        if after.number == 0 {
-            return reached(at, from, next, here, spare);
-        }
+        let Some(ends) = plain_ends(body, here, spare) else {
+            break;
+        };
+        let Some(after) = take_ends(body, here, ends, &sizes, work, next) else {
+            break;
+        };
         next = after;
         to += 9;
         spare = u32::leading_zeros(ends) as usize - 24;
     }
-    reached(at, from, next, Offset { byte: to }, spare)
+    let count = next.number - first;
+    let units = (to - head.byte) / 9;
+    taken(at, count, units, spare, from_byte(Offset { byte: to }))
 }
 
 // What a block of some numbers left spare of its 8 data bytes.

@@ -35,17 +35,17 @@ returns-then-not-is_allowed c =
     (unit-barred _ _ _ (inside c.args.at.head.byte c.args.body.now c.has_block.ensures c.if-not-has_block.false)
     (sym c.is_allowed.ensures ∙ c.if-not-is_allowed.true))
 
-pub take_ends-count-requires : goal.take_ends-count-requires
-take_ends-count-requires c =
+pub take_ends-requires : goal.take_ends-requires
+take_ends-requires c =
     let so : Standing c.args.body.now c.args.left c.args.at =
     standing c.has_block.ensures c.if-not-has_block.false (c.type_inv.body _).fits c.is_allowed.ensures c.if-not-is_allowed.false in
     unit-asks so (rw c.from-ends.ensures)
 
-pub returns-then-count-eq0 : goal.returns-then-count-eq0
-returns-then-count-eq0 c =
+pub returns-in_default : goal.returns-in_default
+returns-in_default c =
     let so : Standing c.args.body.now c.args.left c.args.at =
     standing c.has_block.ensures c.if-not-has_block.false (c.type_inv.body _).fits c.is_allowed.ensures c.if-not-is_allowed.false in
-    unit-refused _ _ _ (unit-fault so c.take_ends-count.ensures c.if-count-eq0.true)
+    unit-refused _ _ _ (unit-fault so c.take_ends.ensures c.in_default.is)
 
 pub overflow_add-first : goal.overflow_add-first
 overflow_add-first c = omega (arith, inside c.args.at.head.byte c.args.body.now c.has_block.ensures c.if-not-has_block.false)
@@ -54,4 +54,4 @@ pub returns : goal.returns
 returns c =
     let so : Standing c.args.body.now c.args.left c.args.at =
     standing c.has_block.ensures c.if-not-has_block.false (c.type_inv.body _).fits c.is_allowed.ensures c.if-not-is_allowed.false in
-    unit-next so c.take_ends-count.ensures c.if-count-eq0.false c.from_byte.ensures
+    unit-next so c.take_ends.ensures c.in-Some.is c.from_byte.ensures

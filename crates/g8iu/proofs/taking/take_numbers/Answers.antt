@@ -11,29 +11,17 @@ loop-coming-init c = rw add-sub_cancel (numbers-start c.requires (λ i. (c.type_
 pub overflow_cast-f : goal.overflow_cast-f
 overflow_cast-f c = omega (arith, numbers-index c.loop-coming.invariant c.loop-coming-test.true)
 
-pub offset_bounds-most-f : goal.offset_bounds-most-f
-offset_bounds-most-f c = omega (arith, numbers-index c.loop-coming.invariant c.loop-coming-test.true)
+pub bounds-sizes-f : goal.bounds-sizes-f
+bounds-sizes-f c = numbers-index c.loop-coming.invariant c.loop-coming-test.true
 
-pub bounds-most-f : goal.bounds-most-f
-bounds-most-f c = numbers-index c.loop-coming.invariant c.loop-coming-test.true
+pub bounds-sizes-f-in-loop-coming : goal.bounds-sizes-f-in-loop-coming
+bounds-sizes-f-in-loop-coming c = numbers-index c.loop-coming.invariant c.loop-coming-test.true
 
-pub offset_bounds-least-f : goal.offset_bounds-least-f
-offset_bounds-least-f c = omega (arith, numbers-index c.loop-coming.invariant c.loop-coming-test.true)
-
-pub bounds-least-f : goal.bounds-least-f
-bounds-least-f c = numbers-index c.loop-coming.invariant c.loop-coming-test.true
-
-pub shape_of-out-then-x-least : goal.shape_of-out-then-x-least
-shape_of-out-then-x-least c = numbers-long c.loop-coming.invariant
-
-pub returns-then-x-least : goal.returns-then-x-least
-returns-then-x-least c = rw add-sub_cancel at (numbers-fault c.loop-coming.invariant c.loop-coming-test.true c.if-x-least.true)
+pub returns-then-x-sizes : goal.returns-then-x-sizes
+returns-then-x-sizes c = rw add-sub_cancel at (numbers-fault c.loop-coming.invariant c.loop-coming-test.true c.if-x-sizes.true)
 
 pub overflow_cast-out : goal.overflow_cast-out
 overflow_cast-out c = omega (arith, numbers-small c.loop-coming.invariant c.loop-coming-test.true)
-
-pub offset_bounds-out-next : goal.offset_bounds-out-next
-offset_bounds-out-next c = omega (arith, numbers-room c.loop-coming.invariant c.loop-coming-test.true)
 
 pub bounds-out-next : goal.bounds-out-next
 bounds-out-next c = omega (arith, numbers-room c.loop-coming.invariant c.loop-coming-test.true, numbers-long c.loop-coming.invariant)
@@ -42,34 +30,28 @@ pub overflow_add-next : goal.overflow_add-next
 overflow_add-next c = omega (arith, numbers-room c.loop-coming.invariant c.loop-coming-test.true)
 
 pub overflow_add-len : goal.overflow_add-len
-overflow_add-len c = omega (arith, numbers-few c.loop-coming.invariant c.loop-coming-test.true c.if-x-least.false)
+overflow_add-len c = omega (arith, numbers-few c.loop-coming.invariant c.loop-coming-test.true c.if-x-sizes.false)
 
 pub overflow_mul-rest : goal.overflow_mul-rest
-overflow_mul-rest c = omega (arith, numbers-few c.loop-coming.invariant c.loop-coming-test.true c.if-x-least.false)
+overflow_mul-rest c = omega (arith, numbers-few c.loop-coming.invariant c.loop-coming-test.true c.if-x-sizes.false)
 
 pub overflow_shr-rest : goal.overflow_shr-rest
-overflow_shr-rest c = omega (arith, numbers-few c.loop-coming.invariant c.loop-coming-test.true c.if-x-least.false)
+overflow_shr-rest c = omega (arith, numbers-few c.loop-coming.invariant c.loop-coming-test.true c.if-x-sizes.false)
 
 pub overflow_cast-coming : goal.overflow_cast-coming
-overflow_cast-coming c = omega (arith, numbers-few c.loop-coming.invariant c.loop-coming-test.true c.if-x-least.false)
+overflow_cast-coming c = omega (arith, numbers-few c.loop-coming.invariant c.loop-coming-test.true c.if-x-sizes.false)
 
 pub overflow_shr-coming : goal.overflow_shr-coming
-overflow_shr-coming c = omega (arith, numbers-few c.loop-coming.invariant c.loop-coming-test.true c.if-x-least.false)
+overflow_shr-coming c = omega (arith, numbers-few c.loop-coming.invariant c.loop-coming-test.true c.if-x-sizes.false)
 
 pub loop-coming-smaller : goal.loop-coming-smaller
 loop-coming-smaller c = numbers-less c.loop-coming.invariant c.loop-coming-test.true
 
 pub loop-coming-preserved : goal.loop-coming-preserved
-loop-coming-preserved c = numbers-turn c.loop-coming.invariant c.loop-coming-test.true c.if-x-least.false
-
-pub shape_of-out-then-rest-ne0 : goal.shape_of-out-then-rest-ne0
-shape_of-out-then-rest-ne0 c = numbers-long c.loop-coming.invariant
+loop-coming-preserved c = numbers-turn c.loop-coming.invariant c.loop-coming-test.true c.if-x-sizes.false
 
 pub returns-then-rest-ne0 : goal.returns-then-rest-ne0
 returns-then-rest-ne0 c = rw add-sub_cancel at (numbers-waste c.loop-coming.invariant c.loop-coming-test.false c.if-rest-ne0.true)
-
-pub shape_of-out : goal.shape_of-out
-shape_of-out c = numbers-long c.loop-coming.invariant
 
 pub returns : goal.returns
 returns c = rw add-sub_cancel at (numbers-end c.loop-coming.invariant c.loop-coming-test.false (omega (arith, c.if-rest-ne0.false)))
