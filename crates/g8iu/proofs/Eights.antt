@@ -1,11 +1,11 @@
 -- Eight numbers at once: those of a block of small numbers, which are its data bytes, and those that are put back. Assumes nothing.
-use Prim.Native.Nat.{ℕ, zero, suc, ◌+◌, ◌≤◌}
-use mathlib.Core.Path.{◌≡◌, refl, sym, ap, ◌∙◌}
-use mathlib.Core.List.{List, [], ◌∷◌}
+use Prim.Native.Nat.{ℕ, zero, suc, ◌+◌, ◌≤◌, ◌<◌}
+use mathlib.Core.Path.{◌≡◌, refl, sym, ap, ap₂, ◌∙◌}
+use mathlib.Core.List.{List, [], ◌∷◌, ◌++◌}
 use native.Mathlib.Omega.{arith}
 use Rattle.std.specs.Prelude.{Option, Some, None, IsNone}
 use lib.ListN.{length, get_or, take, drop, set, replicate, drop_of_length-le}
-use lib.Seq.{sets, drop-cons, set-get_or, set-set}
+use lib.Seq.{sets, length-sets, drop-cons, set-get_or, set-set}
 use borrow.Author.Tests.{eq-eqb}
 use Rattle.meaning.specs.Answer.{given}
 use Rattle.meaning.specs.Bytes.{number_of}
@@ -16,11 +16,39 @@ use Rattle.meaning.specs.Lists.{all, sum}
 use Rattle.meaning.specs.Places.{Below, part}
 use Rattle.meaning.specs.declared.Place.{Place}
 use Rattle.meaning.proofs.Bounds.{below-take, below-drop}
-use Rattle.meaning.proofs.Stores.{set-sets}
-use Rattle.leaves.proofs.Parts.{part_length}
+use Rattle.meaning.proofs.Stores.{sets-snoc, set-sets, part-sets}
+use Rattle.leaves.proofs.Parts.{part_length, part-snoc}
 use Rattle.g8iu.specs.Blocks.{data_at, Ending, BlockIs, BegunIs}
 use Rattle.g8iu.proofs.Masks.{length-1}
 use Rattle.g8iu.proofs.Numbers.{or-given, end-some}
+
+-- ---- i of the eight elements of a list from an offset on are stored
+pub record EightSo (list : List ℕ) (from : ℕ) (out₀ : List ℕ) (to : ℕ) (out : List ℕ) (i : ℕ) : Type 0 where
+  pub inside : from + 8 ≤ length list
+  pub room : to + 8 ≤ length out₀
+  pub high : i ≤ 8
+  pub here : out ≡ sets out₀ to (part list from i)
+
+pub eight-start : {list : List ℕ} {from : ℕ} {out₀ : List ℕ} {to : ℕ} → from + 8 ≤ length list → to + 8 ≤ length out₀ → EightSo list from out₀ to out₀ 0
+eight-start inside room = record { inside = inside; room = room; high = omega arith; here = refl }
+
+module _ {list : List ℕ} {from : ℕ} {out₀ : List ℕ} {to : ℕ} {out : List ℕ} {i : ℕ} (so : EightSo list from out₀ to out i) where
+  pub eight-long : length out ≡ length out₀
+  eight-long = ap length so.here ∙ length-sets out₀ to (part list from i)
+
+  pub eight-turn : i < 8 → {x : ℕ} → x ≡ get_or list (from + i) 0 → EightSo list from out₀ to (set out (to + i) x) (i + 1)
+  eight-turn h {x} is =
+      let n = part_length list from i (omega (arith, so.inside)) in
+      let p : part list from i ++ (x ∷ []) ≡ part list from (i + 1) = rw is (sym (part-snoc list from i (omega (arith, so.inside)))) in
+      record {
+        inside = so.inside;
+        room = so.room;
+        high = omega arith;
+        here = ap₂ (λ (r : List ℕ) (k : ℕ). set r (to + k) x) so.here (sym n) ∙ sets-snoc (part list from i) x out₀ to ∙ ap (sets out₀ to) p;
+      }
+
+  pub eight-end : 8 ≤ i → out ≡ sets out₀ to (part list from 8)
+  eight-end h = let e : i ≡ 8 = omega (arith, so.high) in rw e at so.here
 
 -- ---- the block of control byte 0
 eight-lengths : block_lengths 0 ≡ replicate 8 1
@@ -64,18 +92,16 @@ same (suc k) l a h =
     ap (λ (d : List ℕ). sets l a (take (suc k) d)) (drop-cons l a 0 (omega arith)) ∙ ap (λ (m : List ℕ). sets m (suc a) (part l (suc a) k)) (set-get_or l a 0)
     ∙ same k l (suc a) (omega arith)
 
-none_is : (r : Option Place) → IsNone r → r ≡ None
-none_is None e = refl
-none_is (Some q) e = cc
-
 -- what was saved before, put back where the block was at fault
 pub undone : {body : List ℕ} {at ends : ℕ} {most least out : List ℕ} {to : ℕ} → Ending body at ends most least out to → {out' : List ℕ} {r : Option Place}
-    → BegunIs body at to out out' r → IsNone r → {out'' : List ℕ} → out'' ≡ sets out' to (part out to 8) → BlockIs body at to out out'' r
-undone {out = out} {to} asks {r = r} is e h =
+    → BegunIs body at to out out' r → IsNone r → {old out'' : List ℕ} → old ≡ sets (replicate 8 0) 0 (part out to 8)
+    → out'' ≡ sets out' to (part old 0 8) → BlockIs body at to out out'' None
+undone {out = out} {to} asks is e {old} s h =
     let n : length (part out to 8) ≡ 8 = part_length out to 8 asks.fits in
+    let kept : part old 0 8 ≡ part out to 8 = rw s (rw n at (part-sets (part out to 8) (replicate 8 0) 0 (omega arith))) in
     record {
       numbers = [];
       are = is.faulty e;
-      here = h ∙ rw is.here (over is.begun (part out to 8) out to (omega (arith, is.few)) ∙ same 8 out to asks.fits);
-      ends = none_is r e;
+      here = h ∙ rw (kept, is.here) (over is.begun (part out to 8) out to (omega (arith, is.few)) ∙ same 8 out to asks.fits);
+      ends = refl;
     }

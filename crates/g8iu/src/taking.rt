@@ -1,5 +1,7 @@
 // Taking the numbers of one block from a body. Nothing is refused here: where a block is at fault no number is taken, and all is as it was.
 ghost use Rattle.std.specs.Prelude.{◌≡◌, ◌+◌, ◌≤◌, leb, length};
+ghost use Rattle.std.proofs.lemmas.List.Edits.{sets};
+ghost use Rattle.meaning.specs.Places.{part};
 ghost use Rattle.g8iu.specs.Blocks.{Ending, BlockIs, BegunIs};
 
 use meaning::{Offset, Place};
@@ -23,6 +25,19 @@ pub fn has_block(body: &[u8], at: Offset) -> bool
     ensures { result ≡ leb (at.byte + 9) (length body.now) }
 {
     at.byte < body.len().saturating_sub(8)
+}
+
+// Copies eight numbers.
+// kept: `copy_from_slice` asks at each block whether the two overlap, which costs a far lookup its goal.
+fn copy_eight(list: &[u32], from: Place, out: &mut [u32], to: Place)
+    requires { (from.number + 8 ≤ length list.now) × (to.number + 8 ≤ length out.old) }
+    ensures { out.new ≡ sets out.old to.number (part list.now from.number 8) }
+{
+    let source = from.number;
+    let first = to.number;
+    for i in 0..8usize {
+        out[first + i] = list[source + i];
+    }
 }
 
 // Takes a block whose ends are given, and answers the place after its numbers, if it is not at fault: some may be stored all the same.
@@ -73,14 +88,14 @@ fn take_plain(
     requires { Ending body.now at.byte ends sizes.now.most sizes.now.least out.old to.number }
     ensures { BlockIs body.now at.byte to.number out.old out.new result }
 {
-    let first = to.number;
+    let start = Place { number: 0 };
     let mut old = [0u32; 8];
-    old.copy_from_slice(&out[first..first + 8]);
-    let next = take_numbers(body, at, ends, sizes, out, to);
-    if next.is_none() {
-        out[first..first + 8].copy_from_slice(&old);
-    }
-    next
+    copy_eight(out, to, &mut old, start);
+    let Some(next) = take_numbers(body, at, ends, sizes, out, to) else {
+        copy_eight(&old, start, out, to);
+        return None;
+    };
+    Some(next)
 }
 
 // The same; the block of small numbers needs no masks, and nothing can be amiss in it.
