@@ -81,7 +81,10 @@ fn plain_ends(body: &[u8], at: Offset, spare: usize) -> Option<u32>
         return None;
     }
     let ends = 255 - u32::from(body[at.byte]);
-    if ends < 16 || (u32::trailing_zeros(ends) as usize) < spare {
+    if ends < 16 {
+        return None;
+    }
+    if (u32::trailing_zeros(ends) as usize) < spare {
         return None;
     }
     Some(ends)
