@@ -7,7 +7,6 @@ use Rattle.meaning.specs.DataBytes.{data_bytes, data_in}
 use Rattle.meaning.specs.G8IU.{fits, block, block_lengths}
 use Rattle.meaning.specs.Limits.{broken}
 use Rattle.meaning.specs.Lists.{all, sum}
-use Rattle.meaning.specs.Places.{part}
 use Rattle.meaning.specs.declared.Place.{Place}
 
 -- the lengths that a control byte says are allowed where `left` numbers are still to come: one at least, none beyond the list, and waste of at most 3
@@ -77,10 +76,10 @@ pub record Plain (body : List ℕ) (at spare ends : ℕ) : Type 0 where
   pub full : 16 ≤ ends
   pub joins : spare ≤ count_trailing_zeros 32 ends
 
--- the numbers of a list from a place on were put as a block, as many as fit, and r is the place after them
-pub record PutBlock (list : List ℕ) (from end at : ℕ) (out out' : List ℕ) (r : ℕ) : Type 0 where
-  pub some : from < r
-  pub within : r ≤ end
-  pub fitted : length (data_bytes (part list from (r - from))) ≤ 8
-  pub stops : r < end → fits (part list from (r - from)) (get_or list r 0) ≡ false
-  pub here : out' ≡ sets out at (block (part list from (r - from)))
+-- the first r numbers of a list were put as a block, as many as fit
+pub record PutBlock (list : List ℕ) (at : ℕ) (out out' : List ℕ) (r : ℕ) : Type 0 where
+  pub some : 0 < r
+  pub within : r ≤ length list
+  pub fitted : length (data_bytes (take r list)) ≤ 8
+  pub stops : r < length list → fits (take r list) (get_or list r 0) ≡ false
+  pub here : out' ≡ sets out at (block (take r list))

@@ -22,11 +22,11 @@ pub fn write(list: &[u32], out: &mut [u8], at: Offset) -> Offset
     requires { Source list.now at.byte }
     ensures { Wrote (code_g8iu.write list.now) at.byte out.old out.new result }
 {
-    let end = list.len();
-    let mut next = Place { number: 0 };
+    let mut rest = list;
     let mut to = at.byte;
-    while next.number < end {
-        next = put_block(list, next, Place { number: end }, out, Offset { byte: to });
+    while !rest.is_empty() {
+        let taken = put_block(rest, out, Offset { byte: to });
+        rest = &rest[taken..];
         to += 9;
     }
     Offset { byte: to }

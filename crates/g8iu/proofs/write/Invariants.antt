@@ -1,10 +1,10 @@
 -- `write` puts block after block: what is still to be written, put from here on, makes the whole (`Writes`). Assumes nothing.
-use Prim.Native.Nat.{◌-◌}
+use Rattle.std.proofs.Common.{length}
 use Rattle.g8iu.proofs.Writes.{WriteSo}
 use Rattle.g8iu.proofs.write.Given as goal
 
-abbrev pub invariant-loop-next : goal.invariant-loop-next
-invariant-loop-next l = WriteSo l.list 0 l.end l.initial.to l.initial.out l.out l.to l.next.number
+abbrev pub invariant-loop-rest : goal.invariant-loop-rest
+invariant-loop-rest l = WriteSo l.list l.initial.to l.initial.out l.out l.rest l.to
 
-abbrev pub decreases-loop-next : goal.decreases-loop-next
-decreases-loop-next l = l.end - l.next.number
+abbrev pub decreases-loop-rest : goal.decreases-loop-rest
+decreases-loop-rest l = length l.rest

@@ -1,12 +1,16 @@
 -- `close_block` puts the control byte and then zeros: what is left of them makes the whole (`Puts`). Assumes nothing.
-use Rattle.g8iu.proofs.Puts.{zeros-start, zeros-turn, zeros-end}
+use Rattle.std.proofs.Common.{ℕ, ◌≡◌, ◌-◌, ap, arith, replicate}
+use Rattle.leaves.proofs.Putting.{left-start, left_end}
+use Rattle.g8iu.proofs.Puts.{zeros-turn}
 use Rattle.g8iu.proofs.putting.close_block.Goals as goal
 
 pub loop-i-init : goal.loop-i-init
-loop-i-init c = zeros-start c.requires.0 c.requires.2
+loop-i-init c = left-start _ _ _
 
 pub loop-i-preserved : goal.loop-i-preserved
-loop-i-preserved c = zeros-turn c.loop-i.invariant c.loop-i-test.true c.put-in-loop-i.ensures
+loop-i-preserved c = zeros-turn _ _ c.loop-i.invariant c.loop-i-test.true c.put-in-loop-i.ensures
 
 pub returns : goal.returns
-returns c = zeros-end c.loop-i.invariant c.loop-i-test.false c.args.out.now c.requires.1 c.put.ensures
+returns c =
+    let none : 8 - c.loop-i.i ≡ 0 = omega arith in
+    rw c.put.ensures at (left_end c.loop-i.invariant (ap (λ (n : ℕ). replicate n 0) none)).here
