@@ -5,7 +5,7 @@ use mathlib.Core.List.{List, [], ◌∷◌, ◌++◌}
 use native.Mathlib.Omega.{arith}
 use Rattle.std.specs.Prelude.{Option, Some, None, IsNone}
 use lib.ListN.{length, get_or, take, drop, set, replicate, drop_of_length-le}
-use lib.Seq.{sets, length-sets, drop-cons, set-get_or, set-set}
+use lib.Seq.{sets, drop-cons, set-get_or, set-set}
 use borrow.Author.Tests.{eq-eqb}
 use Rattle.meaning.specs.Answer.{given}
 use Rattle.meaning.specs.Bytes.{number_of}
@@ -29,13 +29,7 @@ pub record EightSo (list : List ℕ) (from : ℕ) (out₀ : List ℕ) (to : ℕ)
   pub high : i ≤ 8
   pub here : out ≡ sets out₀ to (part list from i)
 
-pub eight-start : {list : List ℕ} {from : ℕ} {out₀ : List ℕ} {to : ℕ} → from + 8 ≤ length list → to + 8 ≤ length out₀ → EightSo list from out₀ to out₀ 0
-eight-start inside room = record { inside = inside; room = room; high = omega arith; here = refl }
-
 module _ {list : List ℕ} {from : ℕ} {out₀ : List ℕ} {to : ℕ} {out : List ℕ} {i : ℕ} (so : EightSo list from out₀ to out i) where
-  pub eight-long : length out ≡ length out₀
-  eight-long = ap length so.here ∙ length-sets out₀ to (part list from i)
-
   pub eight-turn : i < 8 → {x : ℕ} → x ≡ get_or list (from + i) 0 → EightSo list from out₀ to (set out (to + i) x) (i + 1)
   eight-turn h {x} is =
       let n = part_length list from i (omega (arith, so.inside)) in

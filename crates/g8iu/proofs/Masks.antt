@@ -36,10 +36,6 @@ clear-false (b ∷ bs) h =
     (λ l. let z : b ≡ 0 = omega arith in rw (z, clear-false bs (λ e. h (omega arith))))
 
 -- ---- the tables
-pub masked_small : (d f : ℕ) → f < 8 → bit_and d (get_or most_of f 0) < 2 ^ 32
-masked_small d f h =
-    omega (arith, and_le_r d (get_or most_of f 0), ltb-true (get_or most_of f 0) (2 ^ 32) (at_each 8 (λ (k : ℕ). ltb (get_or most_of k 0) (2 ^ 32)) refl f h))
-
 -- more than 4 bytes hold no number
 few_bytes : (d f : ℕ) → f < 8 → get_or least_of f 0 ≤ bit_and d (get_or most_of f 0) → f ≤ 3
 few_bytes d f h l =

@@ -27,7 +27,7 @@ use Rattle.leaves.proofs.Parts.{part_length}
 use Rattle.words.proofs.Bytes.{number-high}
 use Rattle.g8iu.specs.Blocks.{numbers_in, data_at, numbers_at, or_fault, end_of, Ending, BegunIs}
 use Rattle.g8iu.proofs.Ends.{lengths_of, FirstIs, first-is, lengths-start, lengths_none}
-use Rattle.g8iu.proofs.Masks.{clear-true, clear-false, masked_small, NextIs, number-whole, number_short}
+use Rattle.g8iu.proofs.Masks.{clear-true, clear-false, NextIs, number-whole, number_short}
 
 -- ---- the numbers of some lengths: the first, and the rest
 need-join : (b : Bool) (xs : List ℕ) (m : Answer (List ℕ)) → need b broken (join xs m) ≡ join xs (need b broken m)
@@ -126,14 +126,8 @@ module _ {body : List ℕ} {at ends : ℕ} {most least out₀ : List ℕ} {to : 
     pub numbers-index : f < 8
     numbers-index = omega (arith, first.within, so.few)
 
-    pub numbers-room : next < to + 8
-    numbers-room = omega (arith, first.within, so.few, so.counted)
-
     pub numbers-less : coming / 2 ^ (f + 1) < coming
     numbers-less = omega (arith, shr-shr coming f 1, shr_le coming f)
-
-    pub numbers-small : bit_and rest (get_or most f 0) < 2 ^ 32
-    numbers-small = rw so.asks.highest (masked_small rest f numbers-index)
 
     pub numbers-fault : bit_and rest (get_or most f 0) < get_or least f 0 → BegunIs body at to out₀ out None
     numbers-fault l =

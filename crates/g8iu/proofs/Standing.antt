@@ -159,6 +159,10 @@ pub record Standing (body : List ℕ) (left : ℕ) (p : Position) : Type 0 where
   pub byte : get_or body p.head.byte 0 < 256
   pub allows : allowed left (lengths_at body p.head.byte) ≡ true
 
+pub standing : {body : List ℕ} {left : ℕ} (p : Position) → true ≡ leb (p.head.byte + 9) (length body) → get_or body p.head.byte 0 < 256
+    → true ≡ allowed left (lengths_at body p.head.byte) → Standing body left p
+standing {body} p has byte allows = record { inside = leb-true (p.head.byte + 9) (length body) (sym has); byte = byte; allows = sym allows }
+
 module _ {body : List ℕ} {left : ℕ} {p : Position} (so : Standing body left p) where
   pub unit-asks : {ends : ℕ} → ends ≡ 255 - get_or body p.head.byte 0 → Ending body p.head.byte ends most_of least_of (replicate unit_places 0) 0
   unit-asks e =

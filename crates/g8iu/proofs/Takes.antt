@@ -57,9 +57,6 @@ module _ {body : List ℕ} {left : ℕ} {p : Position} {w₀ : List ℕ} {first 
   pub going-long : length w ≡ length w₀
   going-long = takes-long code_g8iu body left p w₀ first w (next - first) so.units spare (at_byte to) so.takes
 
-  pub going_on : (first ≤ next) × (p.head.byte ≤ to)
-  going_on = (so.low, omega (arith, so.far))
-
   pub going_end : {r : Taken} → Ends p (next - first) ((to - p.head.byte) / 9) spare (at_byte to) r → Took code_g8iu body left p room first w₀ w r
   going_end {r} e =
       let u : (to - p.head.byte) / 9 ≡ so.units = omega (arith, so.far) in

@@ -1,6 +1,4 @@
 -- `take` takes block after block as long as they are plain (`Takes`). Assumes nothing.
-use native.Mathlib.Omega.{arith}
-use lib.Count.{leading_le}
 use Rattle.g8iu.proofs.Takes.{going_start, going_end, going-asks, going-spare, going-fault, going_less, going-turn}
 use Rattle.g8iu.proofs.take.Goals as goal
 use Rattle.g8iu.proofs.take.Goals.{else-loop-next-test, then-loop-next-test+in_default, then-loop-next-test+in-Some+in_default-take_ends}
@@ -10,12 +8,6 @@ loop-next-init c = going_start (λ i. (c.type_inv.body i).fits) c.requires c.min
 
 pub take_ends-requires : goal.take_ends-requires
 take_ends-requires c = going-asks c.loop-next.invariant c.loop-next-test.true c.in-Some.ensures
-
-pub overflow_add-to : goal.overflow_add-to
-overflow_add-to c = omega (arith, c.in-Some.ensures.inside)
-
-pub overflow_cast-spare : goal.overflow_cast-spare
-overflow_cast-spare c = omega (arith, leading_le 32 c.in-Some.ends)
 
 pub overflow_sub-spare : goal.overflow_sub-spare
 overflow_sub-spare c = going-spare c.loop-next.invariant c.loop-next-test.true c.in-Some.ensures

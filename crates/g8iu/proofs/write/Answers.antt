@@ -10,9 +10,6 @@ put_block-taken-requires c =
     let e = eqb-false (length l.rest.now) 0 (sym c.loop-rest-test.ensures) in
     write-asks l.invariant (omega arith)
 
-pub overflow_add-to : goal.overflow_add-to
-overflow_add-to c = omega (arith, c.loop-rest.invariant.source.short)
-
 pub loop-rest-smaller : goal.loop-rest-smaller
 loop-rest-smaller c = write-less c.loop-rest.invariant c.put_block-taken.ensures
 

@@ -15,17 +15,8 @@ close_block-requires c = put-closes c.loop-i.invariant
 pub returns-then-filled-gt8 : goal.returns-then-filled-gt8
 returns-then-filled-gt8 c = put_full c.loop-i.invariant c.byte_length.ensures c.if-filled-gt8.true c.close_block.ensures
 
-pub put_fewest-requires : goal.put_fewest-requires
-put_fewest-requires c = omega (arith, put-sized c.loop-i.invariant c.byte_length.ensures)
-
 pub overflow_sub-control : goal.overflow_sub-control
 overflow_sub-control c = omega (arith, put-sized c.loop-i.invariant c.byte_length.ensures)
-
-pub overflow_cast-control : goal.overflow_cast-control
-overflow_cast-control c = omega (arith, put-sized c.loop-i.invariant c.byte_length.ensures)
-
-pub overflow_shl-control : goal.overflow_shl-control
-overflow_shl-control c = omega (arith, put-sized c.loop-i.invariant c.byte_length.ensures)
 
 pub overflow_sub-control-in-loop-i : goal.overflow_sub-control-in-loop-i
 overflow_sub-control-in-loop-i c = put-bit c.loop-i.invariant c.byte_length.ensures c.loop-i-test.true c.if-filled-gt8.false

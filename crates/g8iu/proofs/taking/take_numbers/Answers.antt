@@ -1,15 +1,12 @@
 -- `take_numbers` takes one number after another from the data as one number (`Numbers`). Assumes nothing.
 use native.Mathlib.Nat.{add-sub_cancel}
 use native.Mathlib.Omega.{arith}
-use Rattle.g8iu.proofs.Numbers.{numbers-start, numbers-long, numbers-index, numbers-room, numbers-less, numbers-small}
+use Rattle.g8iu.proofs.Numbers.{numbers-start, numbers-index, numbers-less}
 use Rattle.g8iu.proofs.Numbers.{numbers-fault, numbers-few, numbers-turn, numbers-waste, numbers-end}
 use Rattle.g8iu.proofs.taking.take_numbers.Goals as goal
 
 pub loop-coming-init : goal.loop-coming-init
 loop-coming-init c = rw add-sub_cancel (numbers-start c.requires (λ i. (c.type_inv.body i).fits) c.eight_at-rest.ensures)
-
-pub overflow_cast-f : goal.overflow_cast-f
-overflow_cast-f c = omega (arith, numbers-index c.loop-coming.invariant c.loop-coming-test.true)
 
 pub bounds-sizes-f : goal.bounds-sizes-f
 bounds-sizes-f c = numbers-index c.loop-coming.invariant c.loop-coming-test.true
@@ -20,26 +17,8 @@ bounds-sizes-f-in-loop-coming c = numbers-index c.loop-coming.invariant c.loop-c
 pub returns-then-x-sizes : goal.returns-then-x-sizes
 returns-then-x-sizes c = rw add-sub_cancel at (numbers-fault c.loop-coming.invariant c.loop-coming-test.true c.if-x-sizes.true)
 
-pub overflow_cast-out : goal.overflow_cast-out
-overflow_cast-out c = omega (arith, numbers-small c.loop-coming.invariant c.loop-coming-test.true)
-
-pub bounds-out-next : goal.bounds-out-next
-bounds-out-next c = omega (arith, numbers-room c.loop-coming.invariant c.loop-coming-test.true, numbers-long c.loop-coming.invariant)
-
-pub overflow_add-next : goal.overflow_add-next
-overflow_add-next c = omega (arith, numbers-room c.loop-coming.invariant c.loop-coming-test.true)
-
-pub overflow_add-len : goal.overflow_add-len
-overflow_add-len c = omega (arith, numbers-few c.loop-coming.invariant c.loop-coming-test.true c.if-x-sizes.false)
-
-pub overflow_mul-rest : goal.overflow_mul-rest
-overflow_mul-rest c = omega (arith, numbers-few c.loop-coming.invariant c.loop-coming-test.true c.if-x-sizes.false)
-
 pub overflow_shr-rest : goal.overflow_shr-rest
 overflow_shr-rest c = omega (arith, numbers-few c.loop-coming.invariant c.loop-coming-test.true c.if-x-sizes.false)
-
-pub overflow_cast-coming : goal.overflow_cast-coming
-overflow_cast-coming c = omega (arith, numbers-few c.loop-coming.invariant c.loop-coming-test.true c.if-x-sizes.false)
 
 pub overflow_shr-coming : goal.overflow_shr-coming
 overflow_shr-coming c = omega (arith, numbers-few c.loop-coming.invariant c.loop-coming-test.true c.if-x-sizes.false)
