@@ -24,6 +24,7 @@ pub fn write(list: &[u32], out: &mut [u8], at: Offset) -> Offset
 {
     let mut rest = list;
     let mut to = at.byte;
+    // A turn takes as many numbers as fit into a block.
     while !rest.is_empty() {
         let taken = put_block(rest, out, Offset { byte: to });
         rest = &rest[taken..];
@@ -110,6 +111,7 @@ pub fn take(
     let mut next = from;
     let mut to = head.byte;
     let mut spare: usize = 0;
+    // A turn takes a block, of as many numbers as it holds.
     while next.number < end {
         let here = Offset { byte: to };
         let Some(ends) = plain_ends(body, here, spare) else {

@@ -57,6 +57,7 @@ fn take_numbers(
     let mut rest = eight_at(body, Offset { byte: data });
     let mut coming = ends;
     let mut next = to.number;
+    // A turn goes on to the next end.
     while coming != 0 {
         let f = u32::trailing_zeros(coming) as usize;
         let x = rest & sizes.most[f];
