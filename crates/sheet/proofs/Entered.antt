@@ -21,27 +21,15 @@ use Rattle.table.proofs.ColumnLaws.{column-here}
 use Rattle.table.proofs.Sounds.{sound-sheet, sound-column}
 use Rattle.sheet.specs.Opened.{column_of, Readable}
 
--- the parts of the sheet that are lent for an entry's plan and body
-abbrev pub plan_part : List ℕ → Entry → List ℕ
-plan_part sheet e = take (e.plan.byte + plan_bytes - e.plan.byte) (drop e.plan.byte sheet)
-
-abbrev pub body_part : List ℕ → Entry → List ℕ
-body_part sheet e = take (e.body.byte + e.size - e.body.byte) (drop e.body.byte sheet)
-
 module _ (sheet : List ℕ) (e : Entry) where
-  plan-part : plan_part sheet e ≡ (column_of sheet e).plan
-  plan-part = let n : e.plan.byte + plan_bytes - e.plan.byte ≡ plan_bytes = omega arith in ap (λ (j : ℕ). take j (drop e.plan.byte sheet)) n
+  -- whatever is made of its plan and its body is made of the column
+  pub of-column : {X : Type 0} (f : Plan → List ℕ → ℕ → X) {plan body : List ℕ} → plan ≡ part sheet e.plan.byte plan_bytes
+      → body ≡ part sheet e.body.byte e.size
+      → f (plan_of plan) body e.count ≡ f (plan_of (column_of sheet e).plan) (column_of sheet e).body (column_of sheet e).count
+  of-column f p b = ap₂ (λ (p b : List ℕ). f (plan_of p) b e.count) p b
 
-  body-part : body_part sheet e ≡ (column_of sheet e).body
-  body-part = let n : e.body.byte + e.size - e.body.byte ≡ e.size = omega arith in ap (λ (j : ℕ). take j (drop e.body.byte sheet)) n
-
-  -- whatever is made of them is made of the column
-  pub of-column : {X : Type 0} (f : Plan → List ℕ → ℕ → X)
-      → f (plan_of (plan_part sheet e)) (body_part sheet e) e.count ≡ f (plan_of (column_of sheet e).plan) (column_of sheet e).body (column_of sheet e).count
-  of-column f = ap₂ (λ (p b : List ℕ). f (plan_of p) b e.count) plan-part body-part
-
-  pub body-short : length sheet ≤ most_bytes → length (body_part sheet e) ≤ most_bytes
-  body-short h = omega (arith, length-take (e.body.byte + e.size - e.body.byte) (drop e.body.byte sheet), length-drop e.body.byte sheet)
+  pub body-short : length sheet ≤ most_bytes → {body : List ℕ} → body ≡ part sheet e.body.byte e.size → length body ≤ most_bytes
+  body-short h b = omega (arith, ap length b, length-take e.size (drop e.body.byte sheet), length-drop e.body.byte sheet)
 
   pub body_bytes : Below 256 sheet → Below 256 (column_of sheet e).body
   body_bytes b = below-take 256 e.size (drop e.body.byte sheet) (below-drop 256 e.body.byte sheet b)

@@ -9,7 +9,7 @@ use mathlib.Core.List.{List}
 use native.Mathlib.Omega.{arith}
 use lib.ListN.{length, length-take}
 use Rattle.meaning.specs.Answer.{Answer, given, need}
-use Rattle.meaning.specs.Limits.{broken}
+use Rattle.meaning.specs.Limits.{broken, plan_bytes}
 use Rattle.meaning.specs.Places.{part, Below, Got}
 use Rattle.meaning.specs.Plan.{plan_of}
 use Rattle.meaning.specs.Sheet.{Column, of_kind, edition_of, read_column}
@@ -19,7 +19,7 @@ use Rattle.stages.proofs.Back.{back}
 use Rattle.stages.proofs.Gots.{got-refused, got-given, got-stop, got-then}
 use Rattle.table.specs.declared.Entry.{Entry}
 use Rattle.sheet.specs.Opened.{column_of}
-use Rattle.sheet.proofs.Entered.{plan_part, body_part, of-column}
+use Rattle.sheet.proofs.Entered.{of-column}
 use Rattle.codes.proofs.Numbered.{laws}
 
 -- what is asked of a list that was read for a kind, by the edition
@@ -36,13 +36,13 @@ got-part w n many =
     }
 
 -- what was read from the parts that are lent for an entry
-module _ (sheet : List ℕ) (e : Entry) {w w₁ : List ℕ} {q : Result ℕ Refusal}
-    (lent : Got (read (plan_of (plan_part sheet e)) (body_part sheet e) e.count) 0 w w₁ q) where
+module _ (sheet : List ℕ) (e : Entry) {plan body w w₁ : List ℕ} {q : Result ℕ Refusal} (ep : plan ≡ part sheet e.plan.byte plan_bytes)
+    (eb : body ≡ part sheet e.body.byte e.size) (lent : Got (read (plan_of plan) body e.count) 0 w w₁ q) where
   abbrev all : Answer (List ℕ)
   all = read (plan_of (column_of sheet e).plan) (column_of sheet e).body (column_of sheet e).count
 
   so : Got all 0 w w₁ q
-  so = subst (λ (a : Answer (List ℕ)). Got a 0 w w₁ q) (of-column sheet e read) lent
+  so = subst (λ (a : Answer (List ℕ)). Got a 0 w w₁ q) (of-column sheet e read ep eb) lent
 
   pub column-stop : {z : Refusal} → q ≡ Err z → Got (read_column (column_of sheet e)) 0 w w₁ (Err z)
   unfolding read_column

@@ -77,7 +77,7 @@ pub fn tally_in(endings: &[u32]) -> Result<Tally, Fault>
     };
     for &ending in endings {
         if NEVER_ENDED < ending {
-            return Err(Fault::from(Refusal::BadBoard));
+            return Err(Refusal::BadBoard.into());
         }
         tally = with_ending(tally, ending);
     }

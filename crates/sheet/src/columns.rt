@@ -3,7 +3,7 @@ ghost use Rattle.meaning.specs.Places.{Got};
 ghost use Rattle.meaning.specs.Sheet.{read_column};
 ghost use Rattle.sheet.specs.Opened.{column_of, Readable};
 
-use meaning::{PLAN_BYTES, Refusal};
+use meaning::Refusal;
 use plan_read::read_list;
 use stages::of_kind;
 use table::Entry;
@@ -14,13 +14,9 @@ pub fn read_column(sheet: &[u8], entry: Entry, work: &mut [u32]) -> Result<usize
     requires { Readable sheet.now work.old entry }
     ensures { Got (read_column (column_of sheet.now entry)) 0 work.old work.new result }
 {
-    let plan = entry.plan;
-    let from = plan.byte;
-    let to = from + PLAN_BYTES;
-    let body = entry.body;
-    let start = body.byte;
-    let end = start + entry.size;
-    let n = read_list(&sheet[from..to], &sheet[start..end], entry.count, work)?;
+    let plan = entry.plan_of(sheet);
+    let body = entry.body_of(sheet);
+    let n = read_list(plan, body, entry.count, work)?;
     if of_kind(edition_of(sheet), entry.kind, &work[..n]) {
         return Ok(n);
     }

@@ -10,7 +10,7 @@ ghost use Rattle.sheet.specs.Opened.{Ready};
 
 use crate::boards::{jobs_hold, read_again, tally_in};
 use crate::columns::read_column;
-use meaning::{Fault, PLAN_BYTES, Place, Refusal, Tally};
+use meaning::{Fault, Place, Refusal, Tally};
 use plan_look::lookup_list;
 use stages::copy_list;
 use table::entries::column_count;
@@ -40,7 +40,7 @@ pub fn check(sheet: &[u8], work: &mut [u32]) -> Result<(), Fault>
     sound(sheet)?;
     let most = largest_count(sheet);
     if work.len() < 8 * most {
-        return Err(Fault::from(Refusal::ShortWork));
+        return Err(Refusal::ShortWork.into());
     }
     check_columns(sheet, work)
 }
@@ -74,13 +74,12 @@ pub fn lookup(sheet: &[u8], column: usize, place: Place) -> Result<u32, Refusal>
     if found.count <= place.number {
         return Err(Refusal::NoPlace);
     }
-    let plan = found.plan;
-    let from = plan.byte;
-    let to = from + PLAN_BYTES;
-    let body = found.body;
-    let start = body.byte;
-    let end = start + found.size;
-    lookup_list(&sheet[from..to], &sheet[start..end], found.count, place)
+    lookup_list(
+        found.plan_of(sheet),
+        found.body_of(sheet),
+        found.count,
+        place,
+    )
 }
 
 // Counts the board: the check, then the board's rules, 12. Column 0 holds job numbers, column 1 endings.
@@ -89,7 +88,7 @@ pub fn board(sheet: &[u8], work: &mut [u32]) -> Result<Tally, Fault>
 {
     check(sheet, work)?;
     if !jobs_hold(sheet, work) {
-        return Err(Fault::from(Refusal::BadBoard));
+        return Err(Refusal::BadBoard.into());
     }
     let n = read_again(sheet, 1, work);
     tally_in(&work[..n])

@@ -20,7 +20,7 @@ pub returns-then-not-jobs_hold : goal.returns-then-not-jobs_hold
 returns-then-not-jobs_hold c =
     let passes = sym c.in_ok-check.ensures in
     let a = c.args in
-    rw c.from.ensures (board-broken a.sheet.now (length a.work.now) passes (sym c.jobs_hold.ensures ∙ c.if-not-jobs_hold.true))
+    rw c.into.ensures (board-broken a.sheet.now (length a.work.now) passes (sym c.jobs_hold.ensures ∙ c.if-not-jobs_hold.true))
 
 pub read_again-n-requires : goal.read_again-n-requires
 read_again-n-requires c =

@@ -24,7 +24,7 @@ pub returns-then-work-most : goal.returns-then-work-most
 returns-then-work-most c =
     let sounds = sym c.in_ok-sound.ensures in
     let a = c.args in
-    rw c.from.ensures (sym (check-short a.sheet.now (length a.work.now) sounds (omega (arith, c.if-work-most.true, c.largest_count-most.ensures))))
+    rw c.into.ensures (sym (check-short a.sheet.now (length a.work.now) sounds (omega (arith, c.if-work-most.true, c.largest_count-most.ensures))))
 
 pub check_columns-requires : goal.check_columns-requires
 check_columns-requires c =

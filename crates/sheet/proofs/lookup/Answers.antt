@@ -13,21 +13,17 @@ returns-then-found-place c =
     let a = c.args in
     sym (look-past a.sheet.now a.column a.place.number _ (opened-column opened) c.if-found-place.true)
 
-pub overflow_add-to : goal.overflow_add-to
-overflow_add-to c =
-    let opened = c.in_ok-found.ensures in
-    omega (arith, opened.entry.plan_fits)
+pub plan_of-requires : goal.plan_of-requires
+plan_of-requires c = c.in_ok-found.ensures.entry.plan_fits
 
-pub overflow_add-end : goal.overflow_add-end
-overflow_add-end c =
-    let opened = c.in_ok-found.ensures in
-    omega (arith, opened.entry.body_fits)
+pub body_of-requires : goal.body_of-requires
+body_of-requires c = c.in_ok-found.ensures.entry.body_fits
 
 pub lookup_list-requires : goal.lookup_list-requires
 lookup_list-requires c =
     let opened = c.in_ok-found.ensures in
     record {
-      short = body-short c.args.sheet.now c.in_ok-found.found (sheet-short opened.entry (opened-here opened));
+      short = body-short c.args.sheet.now c.in_ok-found.found (sheet-short opened.entry (opened-here opened)) c.body_of.ensures;
       few = count-few opened.entry (opened-here opened);
       inside = c.if-found-place.false;
     }
@@ -43,15 +39,5 @@ returns c =
     let opened = c.in_ok-found.ensures in
     let a = c.args in
     c.lookup_list.ensures
-    ∙ of-column a.sheet.now c.in_ok-found.found (λ p b n. look p b n a.place.number)
+    ∙ of-column a.sheet.now c.in_ok-found.found (λ p b n. look p b n a.place.number) c.plan_of.ensures c.body_of.ensures
     ∙ sym (look-there a.sheet.now a.column a.place.number _ (opened-column opened) c.if-found-place.false)
-
-pub slice_bounds-lookup_list-end : goal.slice_bounds-lookup_list-end
-slice_bounds-lookup_list-end c =
-    let opened = c.in_ok-found.ensures in
-    omega (arith, opened.entry.plan_fits)
-
-pub slice_bounds-lookup_list-end-2 : goal.slice_bounds-lookup_list-end-2
-slice_bounds-lookup_list-end-2 c =
-    let opened = c.in_ok-found.ensures in
-    omega (arith, opened.entry.body_fits)

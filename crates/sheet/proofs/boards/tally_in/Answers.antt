@@ -7,7 +7,7 @@ pub loop-ending-init : goal.loop-ending-init
 loop-ending-init c = tally-first
 
 pub returns-then-ending-gt-NEVER_ENDED : goal.returns-then-ending-gt-NEVER_ENDED
-returns-then-ending-gt-NEVER_ENDED c = rw c.from.ensures (tally-over c.loop-ending.invariant c.loop-ending-test.true c.if-ending-gt-NEVER_ENDED.true)
+returns-then-ending-gt-NEVER_ENDED c = rw c.into.ensures (tally-over c.loop-ending.invariant c.loop-ending-test.true c.if-ending-gt-NEVER_ENDED.true)
 
 pub with_ending-tally-requires : goal.with_ending-tally-requires
 with_ending-tally-requires c =
