@@ -1,5 +1,5 @@
 -- One group, field by field, and its answer as a unit. Assumes nothing.
-use Prim.Native.Nat.{ℕ, zero, suc, ◌+◌, ◌-◌, ◌*◌, ◌/◌, ◌%◌, ◌^◌, ◌≤◌, ◌<◌}
+use Prim.Native.Nat.{ℕ, zero, suc, ◌+◌, ◌-◌, ◌*◌, ◌/◌, ◌%◌, ◌^◌, ◌≤◌, ◌<◌, min}
 use mathlib.Core.Path.{◌≡◌, refl, sym, ap, ◌∙◌}
 use mathlib.Core.Bool.{Bool, true, false}
 use mathlib.Core.List.{List, [], ◌∷◌, ◌++◌, append_assoc, append-nil}
@@ -8,7 +8,7 @@ use native.Mathlib.Omega.{arith}
 use lib.Dec.{leb, eqb}
 use lib.ListN.{length, take, drop, set, replicate, length-append, length-drop}
 use lib.Seq.{drop-drop, set_at, take_at, drop_at}
-use Rattle.std.specs.Prelude.{Ok, Err}
+use Rattle.std.specs.Prelude.{Result, Ok, Err}
 use borrow.Author.Tests.{le-leb, lt-leb, eq-eqb, ne_eqb, eqb-true, eqb-false}
 use Rattle.meaning.specs.Answer.{Answer, given, refused, bind, need}
 use Rattle.meaning.specs.Bytes.{number_of}
@@ -19,6 +19,7 @@ use Rattle.meaning.specs.Lists.{sum}
 use Rattle.meaning.specs.Places.{UnitIs, part}
 use Rattle.meaning.specs.Says.{refusal_number}
 use Rattle.meaning.specs.declared.Position.{Position}
+use Rattle.meaning.specs.declared.UnitRead.{UnitRead}
 use Rattle.meaning.specs.declared.Refusal.{Refusal}
 use Rattle.meaning.specs.declared.Refusal.TheVariants.{CutShort, Broken}
 use Rattle.meaning.proofs.Answers.{not-given, bind-given, bind-cong}
@@ -235,11 +236,13 @@ module _ (g : Layout) (body : List ℕ) (left : ℕ) (p : Position) where
   refuses e is = record { told = sym is; few = λ u h. cc; clear = λ u h. cc }
 
   -- the control bytes are not there
-  pub reads_none : {k : ℕ} → k ≡ size g left → length body - p.head.byte < group_count k → UnitIs (unit_by g body left p) (Err CutShort)
-  unfolding group_at
-  reads_none {k} many h =
-      let cut : length (drop p.head.byte body) < group_count k = rw (← (length-drop p.head.byte body)) at h in
-      refuses CutShort (rw (← many, lt-leb (group_count k) (length (drop p.head.byte body)) cut) refl)
+  pub reads_none : {most k m : ℕ} → most ≡ g.group.most → k ≡ min most left → m ≡ k / 4 + min 1 (k % 4) → length body - p.head.byte < m
+      → UnitIs (unit_by g body left p) (Err CutShort)
+  unfolding group_at group_count
+  reads_none {k = k} full many rounded h =
+      let e : min g.group.most left ≡ k = sym (many ∙ ap (λ (n : ℕ). min n left) full) in
+      let cut : length (drop p.head.byte body) < (k + 3) / 4 = omega (arith, length-drop p.head.byte body) in
+      refuses CutShort (rw (e, lt-leb ((k + 3) / 4) (length (drop p.head.byte body)) cut) refl)
 
 -- the control bytes of a group of k numbers are there: c are their fields, and its data begins at an offset
 pub record Begun (g : Layout) (body : List ℕ) (left : ℕ) (p : Position) (k c from : ℕ) : Type 0 where
@@ -247,6 +250,22 @@ pub record Begun (g : Layout) (body : List ℕ) (left : ℕ) (p : Position) (k c
   pub many : k ≡ size g left
   pub fields : c ≡ fields_at body p k
   pub start : from ≡ g.from (group_count k) p
+
+-- as many as the numbers, by 4 and rounded up
+pub count-is : (n : ℕ) {m : ℕ} → m ≡ n / 4 + min 1 (n % 4) → m ≡ group_count n
+unfolding group_count
+count-is n e = omega arith
+
+pub begun : (g : Layout) (body : List ℕ) (left : ℕ) (p : Position) {most k m c from : ℕ} → most ≡ g.group.most → k ≡ min most left
+    → m ≡ k / 4 + min 1 (k % 4) → m ≤ length body - p.head.byte → c ≡ number_of (part body p.head.byte m) → from ≡ g.from m p → Begun g body left p k c from
+begun g body left p {k = k} full many rounded there fields start =
+    let e = count-is k rounded in
+    record {
+      there = rw (← e) there;
+      many = many ∙ ap (λ (n : ℕ). min n left) full;
+      fields = fields ∙ ap (λ (n : ℕ). number_of (part body p.head.byte n)) e;
+      start = start ∙ ap (λ (n : ℕ). g.from n p) e;
+    }
 
 module _ {g : Layout} {body : List ℕ} {left : ℕ} {p : Position} where
   -- so the unit is the group of these fields
@@ -295,9 +314,6 @@ module _ {g : Layout} {body : List ℕ} {left : ℕ} {p : Position} where
 
     more : i < k → So g.group body k (fields_at body p k) (g.from (group_count k) p) (suc (k - suc i)) control to t.done
     more h = let m : k - i ≡ suc (k - suc i) = omega arith in rw m at t.so
-
-    pub reads-less : i < k → k - (i + 1) < k - i
-    reads-less h = omega arith
 
     more-there : i < k → data_size g.group (suc (k - suc i)) control ≤ length body - to
     more-there h = let m : k - i ≡ suc (k - suc i) = omega arith in rw m at t.there
@@ -365,3 +381,7 @@ unfolding unit_groups unit_stream
 unit-for Fours body left p = refl
 unit-for Stream body left p = refl
 unit-for Batches body left p = refl
+
+pub as-unit : (form : Form) (body : List ℕ) (left : ℕ) (p : Position) {r : Result UnitRead Refusal} → UnitIs (unit_by (layout_of form) body left p) r
+    → UnitIs ((code_for form).unit body left p) r
+as-unit form body left p u = rw (unit-for form body left p) u

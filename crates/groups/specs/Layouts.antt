@@ -8,10 +8,11 @@ use Rattle.meaning.specs.declared.Position.{Position}
 use Rattle.groups.specs.declared.group.Form.{Form}
 use Rattle.groups.specs.declared.group.Form.TheVariants.{Fours, Stream, Batches}
 
--- how a code groups; where the data of the group at a position begins, which has so many control bytes; and where the next group is when that data ends
--- at an offset
+-- how a code groups; where the first group stands when a list of so many control bytes is written from an offset on; where the data of the group at a
+-- position begins, which has so many control bytes; and where the next group is when that data ends at an offset
 pub record Layout : Type 0 where
   pub group : Grouping
+  pub first : ℕ → ℕ → Position
   pub from : ℕ → Position → ℕ
   pub next : ℕ → Position → ℕ → Position
 
@@ -26,16 +27,28 @@ unit_by g body left p =
 
 -- codes 2 and 7: the data follows its control bytes
 abbrev pub behind : Grouping → Layout
-behind g = record { group = g; from = λ m p. p.head.byte + m; next = λ m p end. at_byte end }
+behind g = record { group = g; first = λ m at. at_byte at; from = λ m p. p.head.byte + m; next = λ m p end. at_byte end }
 
 -- Stream VByte: control bytes and data apart
 abbrev pub apart : Layout
-apart = record { group = fours; from = λ m p. p.tail.byte; next = λ m p end. at_control (p.head.byte + m) end }
+apart =
+    record {
+      group = fours;
+      first = λ m at. at_control at (at + m);
+      from = λ m p. p.tail.byte;
+      next = λ m p end. at_control (p.head.byte + m) end;
+    }
 
 abbrev pub layout_of : Form → Layout
 layout_of Fours = behind fours
 layout_of Stream = apart
 layout_of Batches = behind batches
+
+-- what a form uses of a position
+abbrev pub used : Form → Position → Position
+used Fours p = at_byte p.head.byte
+used Stream p = at_control p.head.byte p.tail.byte
+used Batches p = at_byte p.head.byte
 
 -- the code of each form
 abbrev pub code_for : Form → Code

@@ -1,25 +1,13 @@
--- What is written of m numbers of a slice from a place on.
+-- What is written of a list in groups.
 use Rattle.std.specs.Prelude.{ℕ, ◌+◌, ◌-◌, ◌^◌, ◌≡◌, List, length}
 use Rattle.meaning.specs.DataBytes.{data_bytes}
-use Rattle.meaning.specs.Groups.{Grouping, fours, group_count, control, controls, write_groups}
-use Rattle.meaning.specs.Places.{Wrote, part}
+use Rattle.meaning.specs.Groups.{fours, group_count, control}
+use Rattle.meaning.specs.Places.{Wrote}
 use Rattle.groups.specs.declared.group.Form.{Form}
 use Rattle.groups.specs.declared.group.Form.TheVariants.{Fours, Stream, Batches}
 use Rattle.groups.specs.declared.put.Fielded.{Fielded}
 
--- their data
-abbrev pub data_of : List ℕ → ℕ → ℕ → List ℕ
-data_of xs from m = data_bytes (part xs from m)
-
--- their control bytes
-abbrev pub controls_of : Grouping → List ℕ → ℕ → ℕ → List ℕ
-controls_of g xs from m = controls g (part xs from m)
-
--- both, group by group
-abbrev pub groups_of : Grouping → List ℕ → ℕ → ℕ → List ℕ
-groups_of g xs from m = write_groups g (part xs from m)
-
--- how many bytes both are, however they stand
+-- how many bytes its control bytes and its data are, however they stand
 abbrev pub size_of : List ℕ → ℕ
 size_of xs = group_count (length xs) + length (data_bytes xs)
 

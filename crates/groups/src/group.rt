@@ -1,13 +1,15 @@
-// One group read with all its rules, wherever its control bytes and its data stand in a body.
-ghost use Rattle.std.specs.Prelude.{◌≡◌, ◌<◌, ◌≤◌, ◌+◌, ◌-◌, ◌^◌, length};
+// What the codes of groups differ in, and one group read with all its rules, wherever its control bytes and its data stand in a body.
+ghost use Rattle.std.specs.Prelude.{◌≡◌, ◌<◌, ◌≤◌, ◌+◌, ◌-◌, ◌^◌, ◌↔◌, length, IsTrue};
 ghost use Rattle.meaning.specs.Bytes.{number_of};
 ghost use Rattle.meaning.specs.Groups.{lengths_in};
 ghost use Rattle.meaning.specs.Limits.{most_bytes, unit_places};
 ghost use Rattle.meaning.specs.Lists.{sum};
 ghost use Rattle.meaning.specs.Places.{UnitIs, part};
-ghost use Rattle.groups.specs.Layouts.{layout_of, unit_by};
+ghost use Rattle.groups.specs.Layouts.{code_for, layout_of, used};
+ghost use Rattle.groups.specs.Parts.{fields_by};
 
-use leaves::{from_byte, lesser, whole};
+use crate::put::Fielded;
+use leaves::from_byte;
 use meaning::{Bit, Offset, Position, Refusal, UnitRead};
 use words::{byte_length, number_at};
 
@@ -19,37 +21,127 @@ pub enum Form {
     Batches,
 }
 
-// How many numbers a full group has.
-pub fn most_of(form: Form) -> usize
-    ensures { (result ≡ (layout_of form).group.most) × (result ≤ unit_places) }
-{
-    match form {
-        Form::Fours => 4,
-        Form::Stream => 4,
-        Form::Batches => 16,
+impl Form {
+    // How many numbers a full group has.
+    pub fn most(self) -> usize
+        ensures { (result ≡ (layout_of self).group.most) × (result ≤ unit_places) }
+    {
+        match self {
+            Form::Fours | Form::Stream => 4,
+            Form::Batches => 16,
+        }
     }
-}
 
-// How many bytes a field says.
-fn length_of(form: Form, field: usize) -> usize
-    requires { field < 4 }
-    ensures { (result ≡ (layout_of form).group.bytes field) × (1 ≤ result) × (result ≤ 4) }
-{
-    match form {
-        Form::Fours => field + 1,
-        Form::Stream => field + 1,
-        Form::Batches => 4 - field,
+    // How many bytes a field says.
+    fn length(self, field: usize) -> usize
+        requires { field < 4 }
+        ensures { (result ≡ (layout_of self).group.bytes field) × (1 ≤ result) × (result ≤ 4) }
+    {
+        match self {
+            Form::Fours | Form::Stream => field + 1,
+            Form::Batches => 4 - field,
+        }
     }
-}
 
-// How many bytes there are from an offset on.
-pub fn bytes_from(len: usize, from: Offset) -> usize
-    ensures { result ≡ len - from.byte }
-{
-    if len < from.byte {
-        return 0;
+    // How many bytes of data the first so many fields say.
+    fn data_size(self, count: usize, fields: usize) -> usize
+        requires { count ≤ unit_places }
+        ensures { result ≡ sum (lengths_in (layout_of self).group count fields) }
+    {
+        let mut rest = fields;
+        let mut size: usize = 0;
+        for _i in 0..count {
+            size += self.length(rest % 4);
+            rest = rest / 4;
+        }
+        size
     }
-    len - from.byte
+
+    // A group's fields as this form has them: in a batch each is what is left of 3.
+    pub fn fields(self, laid: Fielded) -> usize
+        requires { laid.fields < laid.scale }
+        ensures { result ≡ fields_by self laid.fields laid.scale }
+    {
+        match self {
+            Form::Fours | Form::Stream => laid.fields,
+            Form::Batches => laid.scale - 1 - laid.fields,
+        }
+    }
+
+    // Where the first group of a list is written, which has so many control bytes in all, when the list is written from an offset on.
+    pub fn first(self, at: Offset, bytes: usize) -> Position
+        requires { at.byte + bytes < 2 ^ 64 }
+        ensures { result ≡ (layout_of self).first bytes at.byte }
+    {
+        let start = at.byte;
+        match self {
+            Form::Stream => Position {
+                head: at,
+                tail: Offset {
+                    byte: start + bytes,
+                },
+                bit: Bit { index: 0 },
+            },
+            Form::Fours | Form::Batches => from_byte(at),
+        }
+    }
+
+    // What is used of a position: all else is 0.
+    pub fn used(self, at: Position) -> Position
+        ensures { result ≡ used self at }
+    {
+        match self {
+            Form::Stream => Position {
+                head: at.head,
+                tail: at.tail,
+                bit: Bit { index: 0 },
+            },
+            Form::Fours | Form::Batches => from_byte(at.head),
+        }
+    }
+
+    // Whether the group of one control byte at a position stands before its data, of which 16 bytes are there.
+    pub fn stands(self, len: usize, at: Position) -> bool
+        ensures { IsTrue result
+            ↔ ((at.head.byte ≤ (layout_of self).from 1 at) × ((layout_of self).from 1 at + 16 ≤ len)) }
+    {
+        let head = at.head;
+        let tail = at.tail;
+        match self {
+            Form::Stream => head.byte <= tail.byte && tail.byte < len.saturating_sub(15),
+            Form::Fours | Form::Batches => head.byte < len.saturating_sub(16),
+        }
+    }
+
+    // Where the data of the group at a position begins, which has so many control bytes.
+    pub fn data(self, at: Position, bytes: usize) -> Offset
+        requires { at.head.byte + bytes < 2 ^ 64 }
+        ensures { result.byte ≡ (layout_of self).from bytes at }
+    {
+        let head = at.head;
+        let behind = head.byte + bytes;
+        match self {
+            Form::Stream => at.tail,
+            Form::Fours | Form::Batches => Offset { byte: behind },
+        }
+    }
+
+    // Where the next group is, when the data of the one at a position ends at an offset.
+    pub fn next(self, at: Position, bytes: usize, end: Offset) -> Position
+        requires { at.head.byte + bytes < 2 ^ 64 }
+        ensures { result ≡ (layout_of self).next bytes at end.byte }
+    {
+        let head = at.head;
+        let control = head.byte + bytes;
+        match self {
+            Form::Stream => Position {
+                head: Offset { byte: control },
+                tail: end,
+                bit: Bit { index: 0 },
+            },
+            Form::Fours | Form::Batches => from_byte(end),
+        }
+    }
 }
 
 // The fields in so many control bytes.
@@ -60,79 +152,31 @@ fn fields_at(body: &[u8], at: Offset, bytes: usize) -> usize
     if bytes == 0 {
         return 0;
     }
-    whole(number_at(body, at, bytes))
+    number_at(body, at, bytes) as usize
 }
 
-// Where the data of the group at a position begins, which has so many control bytes.
-fn data_of(at: Position, form: Form, bytes: usize) -> Offset
-    requires { at.head.byte + bytes < 2 ^ 64 }
-    ensures { result.byte ≡ (layout_of form).from bytes at }
-{
-    let head = at.head;
-    let behind = head.byte + bytes;
-    match form {
-        Form::Fours => Offset { byte: behind },
-        Form::Stream => at.tail,
-        Form::Batches => Offset { byte: behind },
-    }
-}
-
-// Where the next group is, when the data of the one at a position ends at an offset.
-fn next_of(at: Position, form: Form, bytes: usize, end: Offset) -> Position
-    requires { at.head.byte + bytes < 2 ^ 64 }
-    ensures { result ≡ (layout_of form).next bytes at end.byte }
-{
-    let head = at.head;
-    let control = head.byte + bytes;
-    match form {
-        Form::Fours => from_byte(end),
-        Form::Stream => Position {
-            head: Offset { byte: control },
-            tail: end,
-            bit: Bit { index: 0 },
-        },
-        Form::Batches => from_byte(end),
-    }
-}
-
-// How many bytes of data the first so many fields say.
-fn data_size(form: Form, count: usize, fields: usize) -> usize
-    requires { count ≤ unit_places }
-    ensures { result ≡ sum (lengths_in (layout_of form).group count fields) }
-{
-    let mut rest = fields;
-    let mut size: usize = 0;
-    let mut i: usize = 0;
-    while i < count {
-        size += length_of(form, rest % 4);
-        rest = rest / 4;
-        i += 1;
-    }
-    size
-}
-
-// The group at a position, where so many numbers are still to come: its data is there before any of its rules is asked. A field that is not used is not
-// read: it must be 0.
-pub fn group_at(body: &[u8], left: usize, at: Position, form: Form) -> Result<UnitRead, Refusal>
+// Reads the unit at a position, where so many numbers are still to come: a group, or in code 7 a batch. Its data is there before any of its rules is asked.
+// A field that is not used is not read: it must be 0. Inlined, so that each form that it is called with has a loop of its own.
+#[inline(always)]
+pub fn unit(form: Form, body: &[u8], left: usize, at: Position) -> Result<UnitRead, Refusal>
     requires { length body.now ≤ most_bytes }
-    ensures { UnitIs (unit_by (layout_of form) body.now left at) result }
+    ensures { UnitIs ((code_for form).unit body.now left at) result }
 {
     let head = at.head;
-    let count = lesser(most_of(form), left);
-    let bytes = (count + 3) / 4;
-    if bytes_from(body.len(), head) < bytes {
+    let count = form.most().min(left);
+    let bytes = count.div_ceil(4);
+    if body.len().saturating_sub(head.byte) < bytes {
         return Err(Refusal::CutShort);
     }
-    let start = data_of(at, form, bytes);
+    let start = form.data(at, bytes);
     let mut control = fields_at(body, head, bytes);
-    if bytes_from(body.len(), start) < data_size(form, count, control) {
+    if body.len().saturating_sub(start.byte) < form.data_size(count, control) {
         return Err(Refusal::CutShort);
     }
     let mut to = start.byte;
     let mut numbers = [0u32; 16];
-    let mut i: usize = 0;
-    while i < count {
-        let len = length_of(form, control % 4);
+    for i in 0..count {
+        let len = form.length(control % 4);
         let x = number_at(body, Offset { byte: to }, len);
         if byte_length(x) != len {
             return Err(Refusal::Broken);
@@ -140,12 +184,11 @@ pub fn group_at(body: &[u8], left: usize, at: Position, form: Form) -> Result<Un
         numbers[i] = x;
         control = control / 4;
         to += len;
-        i += 1;
     }
     if control != 0 {
         return Err(Refusal::Broken);
     }
-    let next = next_of(at, form, bytes, Offset { byte: to });
+    let next = form.next(at, bytes, Offset { byte: to });
     Ok(UnitRead {
         next,
         count,
