@@ -9,7 +9,7 @@ use lib.Seq.{take_at}
 use Rattle.meaning.specs.Answer.{filled}
 use Rattle.meaning.specs.Limits.{most_numbers, plan_bytes}
 use Rattle.meaning.specs.Operations.{read_sheet, numbers_at}
-use Rattle.meaning.specs.Places.{Wrote, Below}
+use Rattle.meaning.specs.Places.{Wrote, Below, part}
 use Rattle.meaning.specs.Plan.{well_formed}
 use Rattle.meaning.specs.Sheet.{column_at}
 use Rattle.meaning.specs.Texts.{text, digits, all_work, counting, kind_text, unfilled, column_line, number_line, column_lines}
@@ -18,30 +18,24 @@ use Rattle.table.specs.Entries.{Here, EntryIs}
 use Rattle.table.specs.declared.Entry.{Entry}
 use Rattle.table.proofs.Sounds.{sound-column}
 use Rattle.sheet.proofs.Checks.{check-passed}
-use Rattle.sheet.proofs.Entered.{plan_part}
 use Rattle.sheet.proofs.Passing.{numbers-many, reads_all}
 use Rattle.texts.specs.Listing.{words, named, sized, Listable}
 use Rattle.texts.proofs.Lines.{line-open, line-many}
 use Rattle.leaves.proofs.Putting.{wrote_after, wrote_as}
 
 -- ---- its line
-module _ {sheet : List ℕ} {k : ℕ} {e : Entry} where
-  plan-lent : EntryIs sheet k e → plan_part sheet e ≡ (column_at sheet k).plan
-  plan-lent is =
-      let n : e.plan.byte + plan_bytes - e.plan.byte ≡ plan_bytes = omega arith in
-      ap (λ (j : ℕ). take j (drop e.plan.byte sheet)) n ∙ is.plan
+module _ {sheet : List ℕ} {k : ℕ} {e : Entry} (is : EntryIs sheet k e) {plan : List ℕ} (lent : plan ≡ part sheet e.plan.byte plan_bytes) where
+  pub plan-formed : Here sheet k → well_formed plan ≡ true
+  plan-formed here = ap well_formed (lent ∙ is.plan) ∙ (sound-column sheet here.sounds k here.exists).formed
 
-  pub plan-formed : Here sheet k → EntryIs sheet k e → well_formed (plan_part sheet e) ≡ true
-  plan-formed here is = ap well_formed (plan-lent is) ∙ (sound-column sheet here.sounds k here.exists).formed
-
-  pub column-line : EntryIs sheet k e → {at : ℕ} {mid mid₂ end : Offset} {out out₁ out₂ out₃ : List ℕ}
-      → Wrote (named k e.kind) at out out₁ mid → Wrote (words (map digits (unfilled (plan_part sheet e)))) mid.byte out₁ out₂ mid₂
+  pub column-line : {at : ℕ} {mid mid₂ end : Offset} {out out₁ out₂ out₃ : List ℕ}
+      → Wrote (named k e.kind) at out out₁ mid → Wrote (words (map digits (unfilled plan))) mid.byte out₁ out₂ mid₂
       → Wrote (sized e.count e.size) mid₂.byte out₂ out₃ end → Wrote (column_line k (column_at sheet k)) at out out₃ end
   unfolding column_line named sized
-  column-line is p q r =
+  column-line p q r =
       let c = column_at sheet k in
       let p' = wrote_as (ap (named k) is.kind) p in
-      let q' = wrote_as (ap (λ (l : List ℕ). words (map digits (unfilled l))) (plan-lent is)) q in
+      let q' = wrote_as (ap (λ (l : List ℕ). words (map digits (unfilled l))) (lent ∙ is.plan)) q in
       let r' = wrote_as (ap₂ sized is.count is.size) r in
       line-open (text "column") (digits k ∷ kind_text c.kind ∷ text "plan" ∷ []) p' (line-many (map digits (unfilled c.plan)) q' (record { put = r' }))
 

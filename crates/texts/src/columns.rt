@@ -10,8 +10,7 @@ ghost use Rattle.texts.specs.Written.{Puts};
 
 use crate::pieces::{put_digits, put_end, put_next, put_number, put_small, put_word};
 use judge::stage::plan_end;
-use leaves::whole;
-use meaning::{Offset, PLAN_BYTES, RISING};
+use meaning::{Offset, RISING};
 use table::entries::count_at;
 use table::entry_at;
 
@@ -21,7 +20,7 @@ fn put_number_line(place: usize, x: u32, out: &mut [u8], at: Offset) -> Offset
     ensures { Puts (number_line place x) 16 at.byte out.old out.new result }
 {
     let first = put_digits(place, out, at);
-    let second = put_number(whole(x), out, first);
+    let second = put_number(x as usize, out, first);
     put_end(out, second)
 }
 
@@ -31,10 +30,8 @@ fn put_numbers(list: &[u32], out: &mut [u8], at: Offset) -> Offset
     ensures { Puts (counting number_line 0 list.now) (16 * length list.now) at.byte out.old out.new result }
 {
     let mut to = at;
-    let mut i: usize = 0;
-    while i < list.len() {
-        to = put_number_line(i, list[i], out, to);
-        i += 1;
+    for (i, &x) in list.iter().enumerate() {
+        to = put_number_line(i, x, out, to);
     }
     to
 }
@@ -45,10 +42,8 @@ fn put_smalls(bytes: &[u8], out: &mut [u8], at: Offset) -> Offset
     ensures { Puts (words (map digits bytes.now)) (21 * length bytes.now) at.byte out.old out.new result }
 {
     let mut to = at;
-    let mut i: usize = 0;
-    while i < bytes.len() {
-        to = put_small(bytes[i], out, to);
-        i += 1;
+    for &b in bytes {
+        to = put_small(b, out, to);
     }
     to
 }
@@ -103,11 +98,8 @@ fn put_head(sheet: &[u8], column: usize, out: &mut [u8], at: Offset) -> Offset
     ensures { Puts (column_line column (column_at sheet.now column)) 409 at.byte out.old out.new result }
 {
     let entry = entry_at(sheet, column);
-    let plan = entry.plan;
-    let from = plan.byte;
-    let to = from + PLAN_BYTES;
     let first = put_named(column, entry.kind, out, at);
-    let second = put_plan(&sheet[from..to], out, first);
+    let second = put_plan(entry.plan_of(sheet), out, first);
     put_sized(entry.count, entry.size, out, second)
 }
 

@@ -54,10 +54,8 @@ fn put_columns(
 {
     let columns = column_count(sheet);
     let mut to = at;
-    let mut k: usize = 0;
-    while k < columns {
+    for k in 0..columns {
         to = put_column(sheet, k, work, list, out, to);
-        k += 1;
     }
     to
 }

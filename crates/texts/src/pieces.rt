@@ -4,7 +4,7 @@ ghost use Rattle.meaning.specs.Places.{Wrote};
 ghost use Rattle.meaning.specs.Texts.{digits, line, line_feed, space};
 ghost use Rattle.texts.specs.Written.{Puts};
 
-use leaves::{byte_of, put, wide};
+use leaves::put;
 use meaning::Offset;
 
 const SPACE: u8 = 32;
@@ -38,10 +38,8 @@ pub fn put_word(word: &[u8], out: &mut [u8], at: Offset) -> Offset
     ensures { Wrote word.now at.byte out.old out.new result }
 {
     let mut to = at;
-    let mut i: usize = 0;
-    while i < word.len() {
-        to = put_byte(word[i], out, to);
-        i += 1;
+    for &b in word {
+        to = put_byte(b, out, to);
     }
     to
 }
@@ -52,10 +50,10 @@ pub fn put_digits(x: usize, out: &mut [u8], at: Offset) -> Offset
     ensures { Puts (digits x) 20 at.byte out.old out.new result }
 {
     if x < 10 {
-        return put_byte(byte_of(ZERO + x), out, at);
+        return put_byte((ZERO + x) as u8, out, at);
     }
     let high = put_digits(x / 10, out, at);
-    put_byte(byte_of(ZERO + x % 10), out, high)
+    put_byte((ZERO + x % 10) as u8, out, high)
 }
 
 // A further word of a line.
@@ -81,7 +79,7 @@ pub fn put_small(x: u8, out: &mut [u8], at: Offset) -> Offset
     requires { at.byte + 1 < 2 ^ 62 }
     ensures { Puts (space ∷ digits x) 21 at.byte out.old out.new result }
 {
-    put_number(wide(x) as usize, out, at)
+    put_number(usize::from(x), out, at)
 }
 
 // A line of a word and a number.

@@ -1,10 +1,6 @@
 -- The columns that are still to be put, put from here on, make the whole; a turn puts one. Assumes only the laws of the codes.
-use Prim.Native.Nat.{◌-◌}
 use Rattle.texts.proofs.Sheets.{Listing}
 use Rattle.texts.proofs.put_columns.Given as goal
 
 abbrev pub invariant-loop-k : goal.invariant-loop-k
 invariant-loop-k l = Listing l.sheet l.initial.work l.initial.list l.columns l.initial.to.byte l.initial.out l.work l.list l.out l.to.byte l.k
-
-abbrev pub decreases-loop-k : goal.decreases-loop-k
-decreases-loop-k l = l.columns - l.k

@@ -9,25 +9,25 @@ use Rattle.leaves.proofs.Putting.{left-long}
 use Rattle.texts.proofs.Putting.{turns-start, turns_next, turns-end}
 use Rattle.texts.proofs.columns.put_smalls.Goals as goal
 
-pub loop-i-init : goal.loop-i-init
-loop-i-init c =
+pub loop-b-init : goal.loop-b-init
+loop-b-init c =
     let a = c.args in
     turns-start (length a.bytes.now) 21 (words (map digits a.bytes.now)) a.at.byte a.out.now
 
 pub put_small-to-requires : goal.put_small-to-requires
-put_small-to-requires c = omega (arith, c.loop-i.invariant.short)
+put_small-to-requires c = omega (arith, c.loop-b.invariant.short)
 
-pub loop-i-preserved : goal.loop-i-preserved
-loop-i-preserved c =
-    let l = c.loop-i in
-    let more = c.loop-i-test.true in
-    let next = smalls-next c.args.bytes.now l.i more in
+pub loop-b-preserved : goal.loop-b-preserved
+loop-b-preserved c =
+    let l = c.loop-b in
+    let more = c.loop-b-test.true in
+    let next = smalls-next c.args.bytes.now l.b-index more in
     turns_next l.invariant more next c.put_small-to.ensures.wrote c.put_small-to.ensures.short
 
 pub shape_of-out : goal.shape_of-out
-shape_of-out c = left-long c.loop-i.invariant.left
+shape_of-out c = left-long c.loop-b.invariant.left
 
 pub returns : goal.returns
 returns c =
-    let done = c.loop-i-test.false in
-    turns-end c.loop-i.invariant done (smalls-end c.args.bytes.now c.loop-i.i done)
+    let done = c.loop-b-test.false in
+    turns-end c.loop-b.invariant done (smalls-end c.args.bytes.now c.loop-b.b-index done)

@@ -1,5 +1,4 @@
 -- The words that are still to be put, put from here on, make the whole; a turn puts one. Assumes nothing.
-use Prim.Native.Nat.{◌-◌}
 use mathlib.Core.List.{map}
 use lib.ListN.{length, drop}
 use Rattle.meaning.specs.Texts.{digits}
@@ -7,9 +6,6 @@ use Rattle.texts.specs.Listing.{words}
 use Rattle.texts.proofs.Putting.{Turning}
 use Rattle.texts.proofs.columns.put_smalls.Given as goal
 
-abbrev pub invariant-loop-i : goal.invariant-loop-i
-invariant-loop-i l =
-    Turning (length l.bytes) 21 (words (map digits l.bytes)) l.initial.to.byte l.initial.out (words (map digits (drop l.i l.bytes))) l.out l.to.byte l.i
-
-abbrev pub decreases-loop-i : goal.decreases-loop-i
-decreases-loop-i l = length l.bytes - l.i
+abbrev pub invariant-loop-b : goal.invariant-loop-b
+invariant-loop-b l =
+    Turning (length l.bytes) 21 (words (map digits l.bytes)) l.initial.to.byte l.initial.out (words (map digits (drop l.b-index l.bytes))) l.out l.to.byte l.b-index

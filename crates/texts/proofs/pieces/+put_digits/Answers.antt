@@ -10,7 +10,7 @@ use Rattle.texts.proofs.pieces.+put_digits.Goals as goal
 
 pub returns-then-x-lt10 : goal.returns-then-x-lt10
 returns-then-x-lt10 t c =
-    let is = ap (λ (b : ℕ). b ∷ []) c.byte_of.ensures ∙ sym (digits-one c.args.x c.if-x-lt10.true) in
+    let is = sym (digits-one c.args.x c.if-x-lt10.true) in
     few-put (wrote_as is c.put_byte.ensures) (digits-few 20 c.args.x (omega arith) (omega arith))
 
 pub put_byte-requires-2 : goal.put_byte-requires-2
@@ -18,6 +18,5 @@ put_byte-requires-2 t c = omega (arith, c.put_digits-high.ensures)
 
 pub returns : goal.returns
 returns t c =
-    let lowest = wrote_as (ap (λ (b : ℕ). b ∷ []) c.byte_of-2.ensures) c.put_byte-2.ensures in
     let is = sym (digits_more c.args.x c.if-x-lt10.false) in
-    few-put (wrote_as is (wrote_after c.put_digits-high.ensures.wrote lowest)) (digits-few 20 c.args.x (omega arith) (omega arith))
+    few-put (wrote_as is (wrote_after c.put_digits-high.ensures.wrote c.put_byte-2.ensures)) (digits-few 20 c.args.x (omega arith) (omega arith))

@@ -2,4 +2,4 @@
 use Rattle.texts.proofs.pieces.put_small.Goals as goal
 
 pub returns : goal.returns
-returns c = rw c.wide.ensures.0 at c.put_number.ensures
+returns c = rw c.from.ensures at c.put_number.ensures
