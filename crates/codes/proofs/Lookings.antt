@@ -37,7 +37,8 @@ pub record Looking (code : ℕ) (body : List ℕ) (n i : ℕ) (p : Position) : T
   pub so : Walked ((code_of code).unit body) n first i p
 
 -- where the first unit begins
-module _ (code : ℕ) (body : List ℕ) (n : ℕ) (way : (code_of code).way ≡ by_units) {s : Result Position Refusal} (is : says s ≡ (code_of code).start body n) where
+module _ (code : ℕ) (body : List ℕ) (n : ℕ) (way : (code_of code).way ≡ by_units) {s : Result Position Refusal}
+    (is : says s ≡ (code_of code).start body n) where
   pub looking-start : Below 256 body → length body ≤ most_bytes → {p : Position} → s ≡ Ok p → Looking code body n 0 p
   looking-start b h {p} e =
       record { way = way; bytes = b; short = h; first = p; start = sym is ∙ ap says e; so = walk_start ((code_of code).unit body) n p }

@@ -23,5 +23,6 @@ one-read sheet k work out out₁ out₂ r r' e f = (says-same r r' (e.0 ∙ sym 
 pub one-lookup : (sheet : List ℕ) (k place : ℕ) (r r' : Result ℕ Refusal) → says r ≡ look_sheet sheet k place → says r' ≡ look_sheet sheet k place → r ≡ r'
 one-lookup sheet k place r r' e f = says-same r r' (e ∙ sym f)
 
-pub one-board : (sheet : List ℕ) (work : ℕ) (r r' : Result Tally Fault) → counted_says r ≡ count_board sheet work → counted_says r' ≡ count_board sheet work → r ≡ r'
+pub one-board : (sheet : List ℕ) (work : ℕ) (r r' : Result Tally Fault)
+    → counted_says r ≡ count_board sheet work → counted_says r' ≡ count_board sheet work → r ≡ r'
 one-board sheet work r r' e f = counted-same r r' (e ∙ sym f)
