@@ -66,9 +66,12 @@ module _ {body : List ℕ} {d place ended s : ℕ} (inv : Passing body d place e
           on = inv.on ∙ rw (left, le-ltb place (sum_at body s) (rw is at b), n);
         }
 
-  pub passing-end : d / 512 ≤ s → Leads body d place (record { number = s; ended = ended })
+  pub passing-end : d / 512 ≤ s → Leads body d place (record { number = d / 512; ended = ended })
   unfolding stretch_from
-  passing-end h = let e : d / 512 - s ≡ 0 = omega arith in leads (inv.on ∙ rw e)
+  passing-end h =
+      let all : d / 512 ≡ s = omega (arith, inv.few) in
+      let none : d / 512 - s ≡ 0 = omega arith in
+      rw all (leads (inv.on ∙ rw none))
 
 -- ---- the bits of a stretch, by those of the words that hold them
 module _ (bits : List ℕ) (low : Below 2 bits) (k m n : ℕ) (h : m ≤ n) where
@@ -103,7 +106,7 @@ module _ {body : List ℕ} {d place : ℕ} (fit : Fit body d) {r : Stretch} (lea
   here = low_bits (drop (4 + 64 * r.number) body)
 
   abbrev many : ℕ
-  many = min 512 (d - 512 * r.number)
+  many = min (d - 512 * r.number) 512
 
   below : Below 2 here
   below = low_below (drop (4 + 64 * r.number) body)

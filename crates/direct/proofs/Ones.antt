@@ -99,7 +99,7 @@ pub record OnesSo (body : List ℕ) (d left : ℕ) (at : Position) (w₀ : List 
   pub taking : Taking body d left at w₀ from most w n b
   pub bound : Below 256 body
   pub begins : begin ≡ data_at d
-  pub near : limit - n ≤ d - min d b
+  pub near : limit - n ≤ d - b
   pub within : limit ≤ most
   pub reach : n ≤ limit
   pub short : limit < 2 ^ 32
@@ -107,7 +107,7 @@ pub record OnesSo (body : List ℕ) (d left : ℕ) (at : Position) (w₀ : List 
   pub few : d < 2 ^ 32
 
 pub ones-start : {body : List ℕ} {d left : ℕ} {at : Position} {w₀ : List ℕ} {from begin limit most room : ℕ} → Fit body d → Below 256 body
-    → Target body w₀ from room → most ≡ min left room → begin ≡ data_at d → {past : ℕ} → past ≡ min d at.bit.index → limit ≡ min most (d - past)
+    → Target body w₀ from room → most ≡ min left room → begin ≡ data_at d → {rest : ℕ} → rest ≡ d - at.bit.index → limit ≡ min most rest
     → at.bit.index % 8 ≡ 0 → OnesSo body d left at w₀ from begin limit most w₀ 0 at.bit.index
 ones-start fit bound t m begins p l whole =
     record {

@@ -1,5 +1,5 @@
 -- Plain numbers: the zeros before a number's end by one look at two bytes of bits, and its bytes by one mask of four. Assumes nothing.
-use Prim.Native.Nat.{ℕ, zero, suc, ◌+◌, ◌-◌, ◌*◌, ◌/◌, ◌%◌, ◌^◌, ◌≤◌, ◌<◌, min}
+use Prim.Native.Nat.{ℕ, zero, suc, ◌+◌, ◌-◌, ◌*◌, ◌/◌, ◌%◌, ◌^◌, ◌≤◌, ◌<◌}
 use mathlib.Core.Path.{◌≡◌, refl, sym, ap, ap₂, ◌∙◌}
 use mathlib.Core.List.{List, [], ◌∷◌, ◌++◌, append_assoc}
 use native.Mathlib.Omega.{arith}
@@ -132,13 +132,12 @@ pub record Plainly (body : List ℕ) (d left : ℕ) (at : Position) (w₁ : List
   pub onward : Onward body d left at from most w₁ i₁ b₁ w i b
   pub bound : Below 256 body
   pub begins : begin ≡ data_at d
-  pub ends : end ≡ d - min d 3
+  pub ends : end ≡ d - 3
 
 pub plain-start : {body : List ℕ} {d left : ℕ} {at : Position} {w₁ : List ℕ} {i₁ b₁ from begin end most : ℕ} → Fit body d → Below 256 body
-    → from + most < 2 ^ 62 → from + most ≤ length w₁ → begin ≡ data_at d → {three : ℕ} → three ≡ min d 3 → end ≡ d - three
+    → from + most < 2 ^ 62 → from + most ≤ length w₁ → begin ≡ data_at d → end ≡ d - 3
     → Plainly body d left at w₁ i₁ b₁ from begin end most w₁ i₁ b₁
-plain-start fit bound short inside begins e ends =
-    record { onward = onward-start fit short inside; bound = bound; begins = begins; ends = omega arith }
+plain-start fit bound short inside begins ends = record { onward = onward-start fit short inside; bound = bound; begins = begins; ends = ends }
 
 module _ {body : List ℕ} {d left : ℕ} {at : Position} {w₁ : List ℕ} {i₁ b₁ from begin end most : ℕ} {w : List ℕ} {i b : ℕ}
     (so : Plainly body d left at w₁ i₁ b₁ from begin end most w i b) where

@@ -55,7 +55,7 @@ module _ {body : List ℕ} {d first zeros : ℕ} (inv : From body d first zeros)
       omega (arith, inv.on, inv.few)
 
   -- four are enough
-  pub from-full : 4 ≤ zeros → zeros ≡ min 4 (zeros_first (drop first (flags body)))
+  pub from-full : 4 ≤ zeros → 4 ≡ min 4 (zeros_first (drop first (flags body)))
   from-full h = omega (arith, inv.on, inv.few)
 
   pub from-turn : zeros < 4 → first + zeros < d → eqb (get_or (flags body) (first + zeros) 0) 0 ≡ true → From body d first (zeros + 1)
@@ -122,11 +122,11 @@ module _ {body : List ℕ} {d end zeros : ℕ} (inv : Upto body d end zeros) whe
       let z : zeros_before (4 - zeros) (flags body) (end - zeros) ≡ 0 = rw (k, b) (before-stop (flags body) (3 - zeros) (end - zeros - 1) e) in
       omega (arith, inv.on)
 
-  pub upto-full : 4 ≤ zeros → zeros ≡ zeros_before 4 (flags body) end
+  pub upto-full : 4 ≤ zeros → 4 ≡ zeros_before 4 (flags body) end
   upto-full h =
       let k : 4 - zeros ≡ 0 = omega arith in
       let z : zeros_before (4 - zeros) (flags body) (end - zeros) ≡ 0 = rw k (before-enough (flags body) (end - zeros)) in
-      omega (arith, inv.on)
+      omega (arith, inv.on, inv.few)
 
   pub upto_turn : zeros < 4 → zeros < end → eqb (get_or (flags body) (end - zeros - 1) 0) 0 ≡ true → Upto body d end (zeros + 1)
   upto_turn f h e =
