@@ -58,7 +58,12 @@ impl Parts<'_> {
         let first = 512 * s;
         let words = ((d - first).min(512) + 63) / 64;
         let byte = 4 + 64 * s;
-        let found = one_in(self.body, Offset { byte }, words, place.number - stretch.ended);
+        let found = one_in(
+            self.body,
+            Offset { byte },
+            words,
+            place.number - stretch.ended,
+        );
         let Ok(bit) = found else {
             return Err(Refusal::Broken);
         };
