@@ -5,23 +5,11 @@ use native.Mathlib.Omega.{arith}
 use Rattle.meaning.specs.Codes.{code_direct}
 use Rattle.meaning.proofs.Codes.{spare-always}
 use Rattle.meaning.proofs.Taking.{took-none}
-use Rattle.direct.proofs.Nexts.{target-within, begun-long, onward-start, onward-turn, onward-end, onward-long}
+use Rattle.direct.proofs.Nexts.{onward-turn, onward-end}
 use Rattle.direct.proofs.take.Goals as goal
 
 pub returns-in_default : goal.returns-in_default
 returns-in_default c = took-none code_direct _ _ _ _ _ _ (spare-always []) _ c.taken.ensures
-
-pub take_plain-begun-requires : goal.take_plain-begun-requires
-take_plain-begun-requires c = rw c.in-Ok.ensures.same (target-within c.requires (omega (arith, c.min-most.ensures)))
-
-pub loop-i-init : goal.loop-i-init
-loop-i-init c =
-    onward-start c.in-Ok.parts.fit (omega (arith, c.requires.inside, c.min-most.ensures))
-    (omega (arith, c.requires.inside, c.min-most.ensures, begun-long c.take_plain-begun.ensures))
-
--- ---- a turn
-pub shape_of-work-in_default-next_number : goal.shape_of-work-in_default-next_number
-shape_of-work-in_default-next_number c = onward-long c.loop-i.invariant c.take_plain-begun.ensures
 
 pub returns-in_default-next_number : goal.returns-in_default-next_number
 returns-in_default-next_number c =
@@ -30,10 +18,6 @@ returns-in_default-next_number c =
 
 pub loop-i-preserved : goal.loop-i-preserved
 loop-i-preserved c = onward-turn c.loop-i.invariant c.loop-i-test.true _ c.next_number.ensures c.in-Ok-next_number.is
-
--- ---- after the loop
-pub shape_of-work : goal.shape_of-work
-shape_of-work c = onward-long c.loop-i.invariant c.take_plain-begun.ensures
 
 pub returns : goal.returns
 returns c =

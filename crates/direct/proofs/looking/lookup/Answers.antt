@@ -11,8 +11,5 @@ returns-in_err-of c =
     let p = err_from_is_err_and c.from_residual.result c.from_residual.ensures.1 in
     rw (p.1, p.2, none.1) (look-unfit _ _ none.0)
 
-pub look-requires : goal.look-requires
-look-requires c = rw c.in_ok-of.ensures.same c.requires
-
 pub returns : goal.returns
 returns c = rw (← c.in_ok-of.ensures.same) (c.look.ensures ∙ look-fits c.in_ok-of.field-0.fit _)

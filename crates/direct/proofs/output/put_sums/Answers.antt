@@ -1,6 +1,6 @@
 -- A sum is put where a number's bytes reach the end of a stretch. Assumes nothing.
 use native.Mathlib.Omega.{arith}
-use Rattle.direct.proofs.Sums.{sum-start, sum-long, sum_near, sum-few, short-number, sum_more, sum-full, sum-end}
+use Rattle.direct.proofs.Sums.{sum-start, sum_near, sum-few, short-number, sum_more, sum-full, sum-end}
 use Rattle.direct.proofs.output.put_sums.Goals.{then-count-ge512, else-count-ge512, then-count-eq0, else-count-eq0}
 use Rattle.direct.proofs.output.put_sums.Goals as goal
 
@@ -36,9 +36,6 @@ loop-i-preserved c =
           w.put_number.ensures)
       | else-count-ge512 w ↦ rw (w.out-is, w.to-is, w.count-is) (sum_more inv c.loop-i-test.true c.byte_length-count.ensures w.if-count-ge512.false)
     ]
-
-pub shape_of-out : goal.shape_of-out
-shape_of-out c = sum-long c.loop-i.invariant
 
 pub returns : goal.returns
 returns c = sum-end c.loop-i.invariant c.loop-i-test.false

@@ -24,8 +24,3 @@ invariant_of-result c =
       };
       small = λ i. (c.type_inv.body i).fits;
     }
-
-pub returns-clause-told : goal.returns-clause-told
-returns-clause-told c =
-    let is = c.word_at-data_bytes.ensures in
-    rw (head-fits _ is c.if-len-lt4.false (rw (← c.data_at.ensures) c.if-len-data_at.false), is)

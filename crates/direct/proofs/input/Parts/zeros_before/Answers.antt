@@ -1,17 +1,10 @@
 -- `zeros_before` meets its contract: each turn counts one zero. Assumes nothing.
 use mathlib.Core.Path.{sym, ◌∙◌}
-use native.Mathlib.Omega.{arith}
-use Rattle.direct.proofs.Zeros.{upto-start, upto-none, upto-stop, upto-full, upto_turn}
+use Rattle.direct.proofs.Zeros.{upto-none, upto-stop, upto-full, upto_turn}
 use Rattle.direct.proofs.input.Parts.zeros_before.Goals as goal
-
-pub loop-zeros-init : goal.loop-zeros-init
-loop-zeros-init c = upto-start c.args.self.now.fit c.requires
 
 pub returns-then-end-zeros : goal.returns-then-end-zeros
 returns-then-end-zeros c = upto-none c.loop-zeros.invariant c.if-end-zeros.true
-
-pub clear-requires : goal.clear-requires
-clear-requires c = omega (arith, c.loop-zeros.invariant.within)
 
 pub returns-then-not-clear : goal.returns-then-not-clear
 returns-then-not-clear c =
