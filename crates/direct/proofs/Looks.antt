@@ -129,7 +129,8 @@ module _ {body : List ℕ} {d place : ℕ} (fit : Fit body d) {r : Stretch} (lea
   look_is = rw (← lead.is, ← lead.before, bits_are)
 
   -- what is found in the words that hold them
-  module _ {m : ℕ} (are : m ≡ many) (f : Result Bit Refusal) (told : says_by bit_told f ≡ one_at no_place (place - r.ended) (take (64 * ((m + 63) / 64)) here)) where
+  module _ {m : ℕ} (are : m ≡ many) (f : Result Bit Refusal)
+      (told : says_by bit_told f ≡ one_at no_place (place - r.ended) (take (64 * ((m + 63) / 64)) here)) where
     abbrev words : ℕ
     words = (m + 63) / 64
 

@@ -38,4 +38,5 @@ returns-then-spare_zero c =
 pub returns-else-spare_zero : goal.returns-else-spare_zero
 returns-else-spare_zero c =
     rw (← c.in-Ok.ensures.same, c.if-spare_zero.false)
-    (done-spare _ c.args.at c.in-Ok.parts.fit c.if-at-d.false (rw (← c.data_at.ensures) c.if-data_at-d.false) (sym c.spare_zero.ensures ∙ c.if-spare_zero.false))
+    (done-spare _ c.args.at c.in-Ok.parts.fit c.if-at-d.false (rw (← c.data_at.ensures) c.if-data_at-d.false)
+    (sym c.spare_zero.ensures ∙ c.if-spare_zero.false))
