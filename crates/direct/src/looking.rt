@@ -56,15 +56,10 @@ impl Parts<'_> {
         let stretch = self.stretch_of(place);
         let s = stretch.number;
         let first = 512 * s;
-        let words = ((d - first).min(512) + 63) / 64;
+        let words = (d - first).min(512).div_ceil(64);
         let byte = 4 + 64 * s;
-        let found = one_in(
-            self.body,
-            Offset { byte },
-            words,
-            place.number - stretch.ended,
-        );
-        let Ok(bit) = found else {
+        let left = place.number - stretch.ended;
+        let Ok(bit) = one_in(self.body, Offset { byte }, words, left) else {
             return Err(Refusal::Broken);
         };
         let index = first + bit.index;

@@ -64,6 +64,7 @@ impl Parts<'_> {
     }
 
     // Takes plain numbers from a position on into work, from a place on, and at most as many as there is room for.
+    // kept: its parameters are those of `take`, whose form all codes share.
     pub fn take_plain(
         &self,
         left: usize,
