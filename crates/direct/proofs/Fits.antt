@@ -8,21 +8,26 @@ use lib.Dec.{leb}
 use lib.ListN.{length, get_or, take, drop, length-drop}
 use lib.Seq.{get_or-take, get_or-drop, drop-drop, drop_at, take-add, length-take-le}
 use borrow.Author.Tests.{leb-true, le-leb, lt-leb}
-use Rattle.std.specs.Prelude.{Result, Ok, Err}
+use Rattle.std.specs.Prelude.{Result, Err}
 use Rattle.meaning.specs.Answer.{given, refused, need}
 use Rattle.meaning.specs.Bits.{low_bits}
 use Rattle.meaning.specs.Bytes.{word_at}
 use Rattle.meaning.specs.Direct.{flag_bytes, sum_count, sums_at, data_at, parts_fit, flags}
 use Rattle.meaning.specs.Limits.{cut_short}
 use Rattle.meaning.specs.Places.{Below}
-use Rattle.meaning.specs.Says.{says, refusal_number}
+use Rattle.meaning.specs.Says.{says_by, refusal_number}
 use Rattle.meaning.specs.declared.Refusal.{Refusal}
-use Rattle.meaning.proofs.Answers.{not-given, need-given}
+use Rattle.meaning.proofs.Answers.{not-given}
 use Rattle.meaning.proofs.Bounds.{below-take}
 use Rattle.meaning.proofs.Tests.{both_true}
 use Rattle.words.proofs.Bytes.{number_small}
 use Rattle.words.proofs.LowBits.{low-length, low_below, low-drop, low-get}
 use Rattle.direct.specs.Parts.{Fit}
+use Rattle.direct.specs.declared.input.Parts.{Parts}
+
+-- what is told of a body's parts
+abbrev pub parts_told : Parts → ℕ
+parts_told p = p.data_bytes
 
 -- ---- the header
 module _ (body : List ℕ) where
@@ -39,20 +44,14 @@ module _ (body : List ℕ) where
     unfolding parts_fit
     head-fits h = rw (le-leb 4 (length body) head, ← is) (le-leb (data_at d + d) (length body) h)
 
-  -- what a heading says
-  module _ {r : Result ℕ Refusal} (told : says r ≡ need (parts_fit body) cut_short (given (word_at body 0))) where
-    pub heading-fits : {d : ℕ} → r ≡ Ok d → Fit body d
-    heading-fits {d} e =
-        let (fits, q) = need-given (parts_fit body) cut_short (given (word_at body 0)) d (sym told ∙ ap says e) in
-        let is : word_at body 0 ≡ d = cc in
-        record { fits = fits; is = sym is }
-
-    pub heading-none : {e : Refusal} → r ≡ Err e → (parts_fit body ≡ false) × (refusal_number e ≡ cut_short)
-    heading-none {e} q = none (parts_fit body) (word_at body 0) (refusal_number e) (sym told ∙ ap says q)
-      where
-        none : (b : Bool) (x k : ℕ) → need b cut_short (given x) ≡ refused k → (b ≡ false) × (k ≡ cut_short)
-        none true x k q = absurd (not-given k x (sym q))
-        none false x k q = let is : cut_short ≡ k = cc in (refl, sym is)
+  -- a body whose parts do not fit
+  pub heading-none : {r : Result Parts Refusal} → says_by parts_told r ≡ need (parts_fit body) cut_short (given (word_at body 0)) → {e : Refusal} → r ≡ Err e
+      → (parts_fit body ≡ false) × (refusal_number e ≡ cut_short)
+  heading-none told {e} q = none (parts_fit body) (word_at body 0) (refusal_number e) (sym told ∙ ap (says_by parts_told) q)
+    where
+      none : (b : Bool) (x k : ℕ) → need b cut_short (given x) ≡ refused k → (b ≡ false) × (k ≡ cut_short)
+      none true x k q = absurd (not-given k x (sym q))
+      none false x k q = let is : cut_short ≡ k = cc in (refl, sym is)
 
 -- ---- where the parts end
 pub record Standing (body : List ℕ) (d : ℕ) : Type 0 where

@@ -13,7 +13,7 @@ use Rattle.meaning.specs.Direct.{flag_bytes, last_bits}
 use Rattle.meaning.specs.Lists.{joined}
 use Rattle.meaning.specs.Places.{Wrote}
 use Rattle.leaves.proofs.Joined.{joined-rest, joined-past}
-use Rattle.leaves.proofs.Putting.{Left, left-start, left-long, left-most, left-turn, left_end, wrote_as}
+use Rattle.leaves.proofs.Putting.{Left, left-start, left-most, left-turn, left_end, wrote_as}
 use Rattle.words.proofs.DataBytes.{held, data-most}
 use Rattle.words.proofs.LowBits.{bits-length, bits-zero, bits-append, number-bits, pack-length}
 use Rattle.words.proofs.Puts.{put_one}
@@ -74,9 +74,6 @@ flag-start xs at out₀ short =
     record { short = short; small = omega arith; left = left-start (packed (joined last_bits xs)) at out₀ }
 
 module _ {xs : List ℕ} {at : ℕ} {out₀ out : List ℕ} {to wait count i : ℕ} (so : FlagSo xs at out₀ out to wait count i) where
-  pub flag-long : length out ≡ length out₀
-  flag-long = left-long so.left
-
   -- no offset is far from the first
   pub flag-near : to ≤ at + length xs
   unfolding flag_bytes

@@ -64,10 +64,6 @@ last-ones x k rest h =
     ∙ sum_zeros k
 
 -- ---- a list's bits
-pub flags-none : joined last_bits [] ≡ []
-unfolding joined
-flags-none = refl
-
 pub flags-cons : (x : ℕ) (xs : List ℕ) → joined last_bits (x ∷ xs) ≡ last_bits x ++ joined last_bits xs
 unfolding joined
 flags-cons x xs = refl

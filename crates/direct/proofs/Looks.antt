@@ -1,5 +1,5 @@
 -- A number looked up directly: its stretch by the sums, its last byte by the stretch's bits. Assumes nothing.
-use Prim.Native.Nat.{ℕ, suc, ◌+◌, ◌-◌, ◌*◌, ◌/◌, ◌≤◌, ◌<◌, min}
+use Prim.Native.Nat.{ℕ, suc, ◌+◌, ◌-◌, ◌*◌, ◌/◌, ◌%◌, ◌≤◌, ◌<◌, min}
 use mathlib.Core.Path.{◌≡◌, refl, sym, ap, ◌∙◌}
 use mathlib.Core.Bool.{false}
 use mathlib.Core.List.{List}
@@ -66,9 +66,12 @@ module _ {body : List ℕ} {d place ended s : ℕ} (inv : Passing body d place e
           on = inv.on ∙ rw (left, le-ltb place (sum_at body s) (rw is at b), n);
         }
 
-  pub passing-end : d / 512 ≤ s → Leads body d place (record { number = s; ended = ended })
+  pub passing-end : d / 512 ≤ s → Leads body d place (record { number = d / 512; ended = ended })
   unfolding stretch_from
-  passing-end h = let e : d / 512 - s ≡ 0 = omega arith in leads (inv.on ∙ rw e)
+  passing-end h =
+      let all : d / 512 ≡ s = omega (arith, inv.few) in
+      let none : d / 512 - s ≡ 0 = omega arith in
+      rw all (leads (inv.on ∙ rw none))
 
 -- ---- the bits of a stretch, by those of the words that hold them
 module _ (bits : List ℕ) (low : Below 2 bits) (k m n : ℕ) (h : m ≤ n) where
@@ -103,7 +106,7 @@ module _ {body : List ℕ} {d place : ℕ} (fit : Fit body d) {r : Stretch} (lea
   here = low_bits (drop (4 + 64 * r.number) body)
 
   abbrev many : ℕ
-  many = min 512 (d - 512 * r.number)
+  many = min (d - 512 * r.number) 512
 
   below : Below 2 here
   below = low_below (drop (4 + 64 * r.number) body)
@@ -126,12 +129,13 @@ module _ {body : List ℕ} {d place : ℕ} (fit : Fit body d) {r : Stretch} (lea
   look_is = rw (← lead.is, ← lead.before, bits_are)
 
   -- what is found in the words that hold them
-  module _ {m : ℕ} (are : m ≡ many) (f : Result Bit Refusal) (told : says_by bit_told f ≡ one_at no_place (place - r.ended) (take (64 * ((m + 63) / 64)) here)) where
-    abbrev words : ℕ
-    words = (m + 63) / 64
-
+  module _ {m words : ℕ} (are : m ≡ many) (up : words ≡ m / 64 + min 1 (m % 64)) (f : Result Bit Refusal)
+      (told : says_by bit_told f ≡ one_at no_place (place - r.ended) (take (64 * words) here)) where
     enough : many ≤ 64 * words
-    enough = omega arith
+    enough = omega (arith, are, up)
+
+    pub words-few : words ≤ 8
+    words-few = omega (arith, are, up)
 
     pub look_none : {z : Refusal} → f ≡ Err z → refused broken ≡ look_fit body place
     look_none {z} e =
@@ -142,7 +146,7 @@ module _ {body : List ℕ} {d place : ℕ} (fit : Fit body d) {r : Stretch} (lea
       at_b : one_at no_place (place - r.ended) (take (64 * words) here) ≡ given b.index
       at_b = sym told ∙ ap (says_by bit_told) e
 
-      pub found-few : b.index < 64 * ((m + 63) / 64)
+      pub found-few : b.index < 64 * words
       found-few =
           let o = one-is no_place (place - r.ended) (take (64 * words) here) b.index (below-take 2 (64 * words) here below) at_b in
           omega (arith, o.inside, length-take (64 * words) here)
@@ -154,7 +158,7 @@ module _ {body : List ℕ} {d place : ℕ} (fit : Fit body d) {r : Stretch} (lea
 
       pub look-here : 512 * r.number + b.index < d → ending_at body (512 * r.number + b.index) ≡ look_fit body place
       look-here h =
-          let one = one-here here below (place - r.ended) many (64 * words) enough at_b (omega (arith, found-few)) in
+          let one = one-here here below (place - r.ended) many (64 * words) enough at_b (omega (arith, found-few, words-few)) in
           rw look_is (rw one)
 
 -- ---- with the header

@@ -128,9 +128,6 @@ alike : (body : List ℕ) (left : ℕ) (p : Position) → unit_direct body left 
 unfolding unit_direct
 alike body left p = refl
 
-pub target-within : {body w₀ : List ℕ} {from room most : ℕ} → Target body w₀ from room → most ≤ room → Target body w₀ from most
-target-within t e = record { inside = omega (arith, t.inside); short = t.short }
-
 -- ---- one after the other: i numbers of at most `most` have been taken, and the next begins with data byte b
 pub record Taking (body : List ℕ) (d left : ℕ) (at : Position) (w₀ : List ℕ) (from most : ℕ) (w : List ℕ) (i b : ℕ) : Type 0 where
   pub fit : Fit body d
@@ -231,9 +228,6 @@ pub record Onward (body : List ℕ) (d left : ℕ) (at : Position) (from most : 
   pub on : (w₀ : List ℕ) → Taking body d left at w₀ from most w₁ i₁ b₁ → Taking body d left at w₀ from most w i b
 
 module _ {body : List ℕ} {d left : ℕ} {at : Position} {from most : ℕ} {w₁ : List ℕ} {i₁ b₁ : ℕ} where
-  pub onward-start : Fit body d → from + most < 2 ^ 62 → from + most ≤ length w₁ → Onward body d left at from most w₁ i₁ b₁ w₁ i₁ b₁
-  onward-start fit short inside = record { fit = fit; short = short; inside = inside; long = refl; on = λ w₀ t. t }
-
   pub onward-turn : {w : List ℕ} {i b : ℕ} → Onward body d left at from most w₁ i₁ b₁ w i b
       → i < most → (r : Result Next Refusal) → says_by next_told r ≡ next_in body b → {n : Next} → r ≡ Ok n
       → Onward body d left at from most w₁ i₁ b₁ (set w (from + i) n.number) (i + 1) n.end.index

@@ -12,7 +12,6 @@ use Rattle.meaning.specs.Bits.{zeros_first}
 use Rattle.meaning.specs.Codes.{code_direct}
 use Rattle.meaning.specs.Direct.{flag_bytes, sum_count, sums_at, data_at, flags}
 use Rattle.meaning.specs.Places.{Below, Target, Ends, part}
-use Rattle.meaning.specs.Positions.{at_bit}
 use Rattle.meaning.specs.declared.Position.{Position}
 use Rattle.meaning.specs.declared.Taken.{Taken}
 use Rattle.meaning.proofs.Codes.{spare-always}
@@ -22,7 +21,7 @@ use Rattle.leaves.proofs.Parts.{part_length, part-snoc}
 use Rattle.words.proofs.Straight.{number-1, fewest-1}
 use Rattle.direct.specs.Parts.{Fit, next_in, Begun}
 use Rattle.direct.proofs.Fits.{standing, data-few, flags_long, flag-get}
-use Rattle.direct.proofs.Nexts.{in-given, next-given, Taking, taking-start, taking-turn, taking-end, begun-is}
+use Rattle.direct.proofs.Nexts.{in-given, next-given, Taking, taking-start, taking-turn}
 use Rattle.direct.proofs.Zeros.{no_zero}
 
 -- ---- elements stored one by one
@@ -99,7 +98,7 @@ pub record OnesSo (body : List ℕ) (d left : ℕ) (at : Position) (w₀ : List 
   pub taking : Taking body d left at w₀ from most w n b
   pub bound : Below 256 body
   pub begins : begin ≡ data_at d
-  pub near : limit - n ≤ d - min d b
+  pub near : limit - n ≤ d - b
   pub within : limit ≤ most
   pub reach : n ≤ limit
   pub short : limit < 2 ^ 32
@@ -107,7 +106,7 @@ pub record OnesSo (body : List ℕ) (d left : ℕ) (at : Position) (w₀ : List 
   pub few : d < 2 ^ 32
 
 pub ones-start : {body : List ℕ} {d left : ℕ} {at : Position} {w₀ : List ℕ} {from begin limit most room : ℕ} → Fit body d → Below 256 body
-    → Target body w₀ from room → most ≡ min left room → begin ≡ data_at d → {past : ℕ} → past ≡ min d at.bit.index → limit ≡ min most (d - past)
+    → Target body w₀ from room → most ≡ min left room → begin ≡ data_at d → {rest : ℕ} → rest ≡ d - at.bit.index → limit ≡ min most rest
     → at.bit.index % 8 ≡ 0 → OnesSo body d left at w₀ from begin limit most w₀ 0 at.bit.index
 ones-start fit bound t m begins p l whole =
     record {
@@ -159,9 +158,6 @@ module _ {body : List ℕ} {d left : ℕ} {at : Position} {w₀ : List ℕ} {fro
             whole = omega (arith, so.whole);
             few = so.few;
           }
-
-  pub ones-end : {room : ℕ} {q : Position} {r : Taken} → most ≡ min left room → q ≡ at_bit b → Ends at n n 0 q r → Begun body left at room from w₀ w r
-  ones-end m e ends = begun-is (taking-end so.taking m e ends) (rw e at ends)
 
 -- none is taken
 pub ones_none : {body : List ℕ} {left : ℕ} {at : Position} {room from : ℕ} {w : List ℕ} {r : Taken} → Ends at 0 0 0 at r → Begun body left at room from w w r

@@ -1,5 +1,5 @@
 -- Plain numbers: the zeros before a number's end by one look at two bytes of bits, and its bytes by one mask of four. Assumes nothing.
-use Prim.Native.Nat.{ℕ, zero, suc, ◌+◌, ◌-◌, ◌*◌, ◌/◌, ◌%◌, ◌^◌, ◌≤◌, ◌<◌, min}
+use Prim.Native.Nat.{ℕ, zero, suc, ◌+◌, ◌-◌, ◌*◌, ◌/◌, ◌%◌, ◌^◌, ◌≤◌, ◌<◌}
 use mathlib.Core.Path.{◌≡◌, refl, sym, ap, ap₂, ◌∙◌}
 use mathlib.Core.List.{List, [], ◌∷◌, ◌++◌, append_assoc}
 use native.Mathlib.Omega.{arith}
@@ -21,7 +21,7 @@ use Rattle.words.proofs.LowBits.{bits-length, bits-low, bits-parts, low-take, lo
 use Rattle.words.proofs.Straight.{fewest-1, fewest-2, fewest-3, fewest-4}
 use Rattle.direct.specs.Parts.{Fit, next_in}
 use Rattle.direct.proofs.Fits.{standing, data-few, flags-from}
-use Rattle.direct.proofs.Nexts.{in-given, next-given, Onward, onward-start, onward-turn}
+use Rattle.direct.proofs.Nexts.{in-given, next-given, Onward, onward-turn}
 
 -- ---- the zeros that come first, by the count of trailing zeros
 module _ (bits : List ℕ) where
@@ -132,13 +132,7 @@ pub record Plainly (body : List ℕ) (d left : ℕ) (at : Position) (w₁ : List
   pub onward : Onward body d left at from most w₁ i₁ b₁ w i b
   pub bound : Below 256 body
   pub begins : begin ≡ data_at d
-  pub ends : end ≡ d - min d 3
-
-pub plain-start : {body : List ℕ} {d left : ℕ} {at : Position} {w₁ : List ℕ} {i₁ b₁ from begin end most : ℕ} → Fit body d → Below 256 body
-    → from + most < 2 ^ 62 → from + most ≤ length w₁ → begin ≡ data_at d → {three : ℕ} → three ≡ min d 3 → end ≡ d - three
-    → Plainly body d left at w₁ i₁ b₁ from begin end most w₁ i₁ b₁
-plain-start fit bound short inside begins e ends =
-    record { onward = onward-start fit short inside; bound = bound; begins = begins; ends = omega arith }
+  pub ends : end ≡ d - 3
 
 module _ {body : List ℕ} {d left : ℕ} {at : Position} {w₁ : List ℕ} {i₁ b₁ from begin end most : ℕ} {w : List ℕ} {i b : ℕ}
     (so : Plainly body d left at w₁ i₁ b₁ from begin end most w i b) where

@@ -5,7 +5,7 @@ use mathlib.Core.List.{List, ◌++◌}
 use native.Mathlib.Nat.{add-zero}
 use native.Mathlib.Omega.{arith}
 use lib.ListN.{length, get_or, take, length-append}
-use lib.Seq.{sets, length-sets, take_all}
+use lib.Seq.{sets, take_all}
 use Rattle.meaning.specs.Bytes.{bytes_of}
 use Rattle.meaning.specs.DataBytes.{byte_length, data_bytes}
 use Rattle.meaning.specs.Direct.{sum_count, last_bits, sum_bytes}
@@ -42,9 +42,6 @@ unfolding sum_bytes joined
 sum-start xs at out₀ short = record { short = short; over = refl; wrote = record { ends = sym (add-zero at); here = refl } }
 
 module _ {xs : List ℕ} {at : ℕ} {out₀ out : List ℕ} {to count i : ℕ} (so : SumSo xs at out₀ out to count i) where
-  pub sum-long : length out ≡ length out₀
-  sum-long = ap length so.wrote.here ∙ length-sets out₀ at (sum_bytes (begins xs i / 512) (joined last_bits xs))
-
   -- no offset is far from the first
   pub sum_near : to ≤ at + 4 * length xs
   sum_near =

@@ -21,11 +21,6 @@ pub record From (body : List ℕ) (d first zeros : ℕ) : Type 0 where
   pub inside : first + zeros ≤ d
   pub on : zeros_first (drop first (flags body)) ≡ zeros + zeros_first (drop (first + zeros) (flags body))
 
-pub from_start : {body : List ℕ} {d first : ℕ} → Fit body d → first ≤ d → From body d first 0
-from_start {body} {d} {first} fit h =
-    let e : first + 0 ≡ first = omega arith in
-    record { fit = fit; few = omega arith; inside = omega arith; on = rw e (omega arith) }
-
 -- a bit that is no zero, and one that is
 pub no_zero : (b : ℕ) (bits : List ℕ) → eqb b 0 ≡ false → zeros_first (b ∷ bits) ≡ 0
 unfolding zeros_first
@@ -54,10 +49,6 @@ module _ {body : List ℕ} {d first zeros : ℕ} (inv : From body d first zeros)
       let z : zeros_first (drop (first + zeros) (flags body)) ≡ 0 = ap zeros_first (here h) ∙ no_zero _ _ e in
       omega (arith, inv.on, inv.few)
 
-  -- four are enough
-  pub from-full : 4 ≤ zeros → zeros ≡ min 4 (zeros_first (drop first (flags body)))
-  from-full h = omega (arith, inv.on, inv.few)
-
   pub from-turn : zeros < 4 → first + zeros < d → eqb (get_or (flags body) (first + zeros) 0) 0 ≡ true → From body d first (zeros + 1)
   from-turn f h e =
       let n : first + (zeros + 1) ≡ suc (first + zeros) = omega arith in
@@ -72,11 +63,6 @@ pub record Upto (body : List ℕ) (d end zeros : ℕ) : Type 0 where
   pub inside : zeros ≤ end
   pub within : end ≤ d
   pub on : zeros_before 4 (flags body) end ≡ zeros + zeros_before (4 - zeros) (flags body) (end - zeros)
-
-pub upto-start : {body : List ℕ} {d end : ℕ} → Fit body d → end ≤ d → Upto body d end 0
-upto-start {body} {d} {end} fit h =
-    let e : end - 0 ≡ end = omega arith in
-    record { fit = fit; few = omega arith; inside = omega arith; within = h; on = rw e (omega arith) }
 
 module _ (bits : List ℕ) where
   before-none : (k : ℕ) → zeros_before k bits 0 ≡ 0
@@ -122,11 +108,11 @@ module _ {body : List ℕ} {d end zeros : ℕ} (inv : Upto body d end zeros) whe
       let z : zeros_before (4 - zeros) (flags body) (end - zeros) ≡ 0 = rw (k, b) (before-stop (flags body) (3 - zeros) (end - zeros - 1) e) in
       omega (arith, inv.on)
 
-  pub upto-full : 4 ≤ zeros → zeros ≡ zeros_before 4 (flags body) end
+  pub upto-full : 4 ≤ zeros → 4 ≡ zeros_before 4 (flags body) end
   upto-full h =
       let k : 4 - zeros ≡ 0 = omega arith in
       let z : zeros_before (4 - zeros) (flags body) (end - zeros) ≡ 0 = rw k (before-enough (flags body) (end - zeros)) in
-      omega (arith, inv.on)
+      omega (arith, inv.on, inv.few)
 
   pub upto_turn : zeros < 4 → zeros < end → eqb (get_or (flags body) (end - zeros - 1) 0) 0 ≡ true → Upto body d end (zeros + 1)
   upto_turn f h e =

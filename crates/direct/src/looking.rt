@@ -3,11 +3,10 @@ ghost use Rattle.std.specs.Prelude.{◌≡◌, ◌<◌, ◌≤◌, length};
 ghost use Rattle.meaning.specs.Direct.{ending_at, look_direct};
 ghost use Rattle.meaning.specs.Limits.{most_bytes};
 ghost use Rattle.meaning.specs.Says.{says};
-ghost use Rattle.direct.specs.Parts.{Fit, Leads, look_fit};
+ghost use Rattle.direct.specs.Parts.{Leads, look_fit};
 
-use crate::input::{heading_of, number_in, sum_at, zeros_before};
+use crate::input::Parts;
 use bits::one_in;
-use leaves::lesser;
 use meaning::{Bit, Offset, Place, Refusal};
 
 // A stretch, and how many numbers end before it, as the sums say.
@@ -17,55 +16,58 @@ pub struct Stretch {
     pub ended: usize,
 }
 
-// The first stretch whose sum is above the place, else the bits after the last sum.
-fn stretch_of(body: &[u8], d: usize, place: Place) -> Stretch
-    requires { Fit body.now d }
-    ensures { Leads body.now d place.number result }
-{
-    let goal = place.number;
-    let sums = d / 512;
-    let mut ended: usize = 0;
-    let mut s: usize = 0;
-    while s < sums {
-        let through = sum_at(body, d, s);
-        if goal < through {
-            return Stretch { number: s, ended };
+impl Parts<'_> {
+    // The first stretch whose sum is above the place, else the bits after the last sum.
+    fn stretch_of(&self, place: Place) -> Stretch
+        ensures { Leads self.now.body.now self.now.data_bytes place.number result }
+    {
+        let goal = place.number;
+        let sums = self.data_bytes / 512;
+        let mut ended: usize = 0;
+        for s in 0..sums {
+            let through = self.sum_at(s);
+            if goal < through {
+                return Stretch { number: s, ended };
+            }
+            ended = through;
         }
-        ended = through;
-        s += 1;
+        Stretch {
+            number: sums,
+            ended,
+        }
     }
-    Stretch { number: s, ended }
-}
 
-// The number that ends with data byte b.
-fn ending_at(body: &[u8], d: usize, b: Bit) -> Result<u32, Refusal>
-    requires { Fit body.now d × (b.index < d) }
-    ensures { says result ≡ ending_at body.now b.index }
-{
-    let zeros = zeros_before(body, d, b);
-    let index = b.index - zeros;
-    number_in(body, d, Bit { index }, zeros + 1)
-}
-
-// The number at a place, where the parts' ends fit the body.
-fn look_in(body: &[u8], d: usize, place: Place) -> Result<u32, Refusal>
-    requires { Fit body.now d × (length body.now ≤ most_bytes) }
-    ensures { says result ≡ look_fit body.now place.number }
-{
-    let stretch = stretch_of(body, d, place);
-    let s = stretch.number;
-    let first = 512 * s;
-    let words = (lesser(512, d - first) + 63) / 64;
-    let byte = 4 + 64 * s;
-    let found = one_in(body, Offset { byte }, words, place.number - stretch.ended);
-    let Ok(bit) = found else {
-        return Err(Refusal::Broken);
-    };
-    let index = first + bit.index;
-    if d <= index {
-        return Err(Refusal::Broken);
+    // The number that ends with data byte b.
+    fn ending_at(&self, b: Bit) -> Result<u32, Refusal>
+        requires { b.index < self.now.data_bytes }
+        ensures { says result ≡ ending_at self.now.body.now b.index }
+    {
+        let zeros = self.zeros_before(b);
+        let index = b.index - zeros;
+        self.number_in(Bit { index }, zeros + 1)
     }
-    ending_at(body, d, Bit { index })
+
+    // The number at a place.
+    fn look(&self, place: Place) -> Result<u32, Refusal>
+        requires { length self.now.body.now ≤ most_bytes }
+        ensures { says result ≡ look_fit self.now.body.now place.number }
+    {
+        let d = self.data_bytes;
+        let stretch = self.stretch_of(place);
+        let s = stretch.number;
+        let first = 512 * s;
+        let words = (d - first).min(512).div_ceil(64);
+        let byte = 4 + 64 * s;
+        let left = place.number - stretch.ended;
+        let Ok(bit) = one_in(self.body, Offset { byte }, words, left) else {
+            return Err(Refusal::Broken);
+        };
+        let index = first + bit.index;
+        if d <= index {
+            return Err(Refusal::Broken);
+        }
+        self.ending_at(Bit { index })
+    }
 }
 
 // The number at a place.
@@ -73,6 +75,5 @@ pub fn lookup(body: &[u8], place: Place) -> Result<u32, Refusal>
     requires { length body.now ≤ most_bytes }
     ensures { says result ≡ look_direct body.now place.number }
 {
-    let d = heading_of(body)?;
-    look_in(body, d, place)
+    Parts::of(body)?.look(place)
 }

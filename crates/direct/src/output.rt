@@ -24,7 +24,7 @@ fn put_flags(list: &[u32], out: &mut [u8], at: Offset) -> Offset
         if 8 <= count {
             put(out, Offset { byte: to }, (wait % 256) as u8);
             to += 1;
-            wait = wait / 256;
+            wait /= 256;
             count -= 8;
         }
     }
@@ -48,10 +48,7 @@ fn put_sums(list: &[u32], out: &mut [u8], at: Offset) -> Offset
         if 512 <= count {
             count -= 512;
             // A number that goes on after the stretch does not end in it.
-            let mut ended = i + 1;
-            if 0 < count {
-                ended = i;
-            }
+            let ended = if count == 0 { i + 1 } else { i };
             put_number(out, Offset { byte: to }, ended, 2);
             to += 2;
         }

@@ -1,40 +1,26 @@
 -- `take` meets its contract: after the plain numbers each turn takes one. Assumes nothing.
+use mathlib.Core.Path.{◌≡◌}
 use mathlib.Core.List.{[]}
 use native.Mathlib.Omega.{arith}
 use Rattle.meaning.specs.Codes.{code_direct}
 use Rattle.meaning.proofs.Codes.{spare-always}
 use Rattle.meaning.proofs.Taking.{took-none}
-use Rattle.direct.proofs.Fits.{heading-fits}
-use Rattle.direct.proofs.Nexts.{target-within, begun-long, onward-start, onward-turn, onward-end, onward-long}
+use Rattle.direct.proofs.Nexts.{onward-turn, onward-end}
 use Rattle.direct.proofs.take.Goals as goal
 
 pub returns-in_default : goal.returns-in_default
 returns-in_default c = took-none code_direct _ _ _ _ _ _ (spare-always []) _ c.taken.ensures
 
-pub take_plain-begun-requires : goal.take_plain-begun-requires
-take_plain-begun-requires c =
-    (heading-fits _ c.heading_of.ensures c.in-Ok.is, target-within c.requires (omega (arith, c.lesser-most.ensures)))
-
-pub loop-i-init : goal.loop-i-init
-loop-i-init c =
-    let fit = heading-fits _ c.heading_of.ensures c.in-Ok.is in
-    onward-start fit (omega (arith, c.requires.inside, c.lesser-most.ensures))
-    (omega (arith, c.requires.inside, c.lesser-most.ensures, begun-long c.take_plain-begun.ensures))
-
--- ---- a turn
-pub shape_of-work-in_default-next_number : goal.shape_of-work-in_default-next_number
-shape_of-work-in_default-next_number c = onward-long c.loop-i.invariant c.take_plain-begun.ensures
-
 pub returns-in_default-next_number : goal.returns-in_default-next_number
 returns-in_default-next_number c =
-    onward-end c.loop-i.invariant c.lesser-most.ensures c.take_plain-begun.ensures c.from_bit.ensures c.taken-in_default-next_number.ensures
+    rw (← c.in-Ok.ensures.same)
+    (onward-end c.loop-i.invariant c.min-most.ensures c.take_plain-begun.ensures c.from_bit.ensures c.taken-in_default-next_number.ensures)
 
 pub loop-i-preserved : goal.loop-i-preserved
 loop-i-preserved c = onward-turn c.loop-i.invariant c.loop-i-test.true _ c.next_number.ensures c.in-Ok-next_number.is
 
--- ---- after the loop
-pub shape_of-work : goal.shape_of-work
-shape_of-work c = onward-long c.loop-i.invariant c.take_plain-begun.ensures
-
 pub returns : goal.returns
-returns c = onward-end c.loop-i.invariant c.lesser-most.ensures c.take_plain-begun.ensures c.from_bit-2.ensures c.taken-2.ensures
+returns c =
+    let all : c.min-most.result ≡ c.loop-i.i = omega (arith, c.loop-i-test.false, c.loop-i.auto, c.take_plain-begun.ensures.took.few) in
+    rw (← c.in-Ok.ensures.same)
+    (onward-end c.loop-i.invariant c.min-most.ensures c.take_plain-begun.ensures c.from_bit-2.ensures (rw all at c.taken-2.ensures))

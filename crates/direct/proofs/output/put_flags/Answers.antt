@@ -1,6 +1,6 @@
 -- The bits of a number wait until they fill a byte, which is then put. Assumes nothing.
 use native.Mathlib.Omega.{arith}
-use Rattle.direct.proofs.Flags.{flag-start, flag-long, flag-near, flag-some, flag-few, flag-fits, flag-more, flag-full, flag-end, flag-end-none}
+use Rattle.direct.proofs.Flags.{flag-start, flag-near, flag-some, flag-few, flag-fits, flag-more, flag-full, flag-end, flag-end-none}
 use Rattle.direct.proofs.output.put_flags.Goals.{then-count-ge8, else-count-ge8}
 use Rattle.direct.proofs.output.put_flags.Goals as goal
 
@@ -59,9 +59,6 @@ pub returns-then-count-gt0 : goal.returns-then-count-gt0
 returns-then-count-gt0 c =
     let inv = c.loop-x.invariant in
     flag-end inv.1 c.loop-x-test.false c.if-count-gt0.true inv.0 c.put-then-count-gt0.ensures
-
-pub shape_of-out-else-count-gt0 : goal.shape_of-out-else-count-gt0
-shape_of-out-else-count-gt0 c = flag-long c.loop-x.invariant.1
 
 pub returns-else-count-gt0 : goal.returns-else-count-gt0
 returns-else-count-gt0 c = flag-end-none c.loop-x.invariant.1 c.loop-x-test.false (omega (arith, c.if-count-gt0.false))

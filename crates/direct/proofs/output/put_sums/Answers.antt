@@ -1,7 +1,7 @@
 -- A sum is put where a number's bytes reach the end of a stretch. Assumes nothing.
 use native.Mathlib.Omega.{arith}
-use Rattle.direct.proofs.Sums.{sum-start, sum-long, sum_near, sum-few, short-number, sum_more, sum-full, sum-end}
-use Rattle.direct.proofs.output.put_sums.Goals.{then-count-ge512, else-count-ge512, then-count-gt0, else-count-gt0}
+use Rattle.direct.proofs.Sums.{sum-start, sum_near, sum-few, short-number, sum_more, sum-full, sum-end}
+use Rattle.direct.proofs.output.put_sums.Goals.{then-count-ge512, else-count-ge512, then-count-eq0, else-count-eq0}
 use Rattle.direct.proofs.output.put_sums.Goals as goal
 
 pub loop-i-init : goal.loop-i-init
@@ -31,14 +31,11 @@ loop-i-preserved c =
       | then-count-ge512 w ↦
           rw (w.out-is, w.to-is, w.count-is)
           (sum-full inv c.loop-i-test.true c.byte_length-count.ensures w.if-count-ge512.true
-          (λ goes_on. elim w.if-count-gt0.branch [ then-count-gt0 v ↦ omega arith | else-count-gt0 v ↦ omega arith ])
-          (λ ends. elim w.if-count-gt0.branch [ then-count-gt0 v ↦ omega arith | else-count-gt0 v ↦ omega arith ])
+          (λ goes_on. elim w.if-count-eq0.branch [ then-count-eq0 v ↦ omega arith | else-count-eq0 v ↦ omega arith ])
+          (λ ends. elim w.if-count-eq0.branch [ then-count-eq0 v ↦ omega arith | else-count-eq0 v ↦ omega arith ])
           w.put_number.ensures)
       | else-count-ge512 w ↦ rw (w.out-is, w.to-is, w.count-is) (sum_more inv c.loop-i-test.true c.byte_length-count.ensures w.if-count-ge512.false)
     ]
-
-pub shape_of-out : goal.shape_of-out
-shape_of-out c = sum-long c.loop-i.invariant
 
 pub returns : goal.returns
 returns c = sum-end c.loop-i.invariant c.loop-i-test.false
