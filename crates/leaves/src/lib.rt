@@ -1,57 +1,13 @@
 // Small functions that several crates share.
 #![tactic(auto)]
 
-ghost use Rattle.std.specs.Prelude.{◌≡◌, ◌<◌, ◌≤◌, ◌+◌, ◌^◌, min, length, set, take};
+ghost use Rattle.std.specs.Prelude.{◌≡◌, ◌≤◌, ◌+◌, length, set, take};
 ghost use Rattle.std.proofs.lemmas.List.Edits.{sets};
 ghost use Rattle.meaning.specs.Limits.{unit_places};
 ghost use Rattle.meaning.specs.Places.{Ends};
 ghost use Rattle.meaning.specs.Positions.{at_byte, at_bit};
 
 use meaning::{Bit, Offset, Place, Position, Taken};
-
-// A byte as a number: that it is below 256 is then known wherever it goes.
-pub fn wide(x: u8) -> u32
-    ensures { (result ≡ x) × (result < 256) }
-{
-    u32::from(x)
-}
-
-// A number that counts: that it is below 2^32 is then known.
-pub fn whole(x: u32) -> usize
-    ensures { (result ≡ x) × (result < 2 ^ 32) }
-{
-    x as usize
-}
-
-// A number that is to be summed: that it is below 2^32 is then known.
-pub fn long(x: u32) -> u64
-    ensures { (result ≡ x) × (result < 2 ^ 32) }
-{
-    u64::from(x)
-}
-
-// A number known to be below 2^32, as one.
-pub fn word_of(x: usize) -> u32
-    requires { x < 2 ^ 32 }
-    ensures { result ≡ x }
-{
-    x as u32
-}
-
-// A number known to be below 256, as a byte.
-pub fn byte_of(x: usize) -> u8
-    requires { x < 256 }
-    ensures { result ≡ x }
-{
-    x as u8
-}
-
-// The lesser of two.
-pub fn lesser(a: usize, b: usize) -> usize
-    ensures { result ≡ min a b }
-{
-    a.min(b)
-}
 
 // A byte is put at an offset of an output; past its end nothing is put.
 pub fn put(out: &mut [u8], at: Offset, b: u8)
