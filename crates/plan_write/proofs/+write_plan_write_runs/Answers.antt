@@ -74,18 +74,6 @@ write_plan-returns-in-Runs t c =
 pub write_plan-slice_bounds-least_of-end : goal.write_plan-slice_bounds-least_of-end
 write_plan-slice_bounds-least_of-end t c = fit-list c.requires
 
-pub write_plan-put_word-requires : goal.write_plan-put_word-requires
-write_plan-put_word-requires t c = omega (arith, c.requires.below)
-
-pub write_plan-overflow_add-first : goal.write_plan-overflow_add-first
-write_plan-overflow_add-first t c = omega (arith, fit-list c.requires)
-
-pub write_plan-overflow_add-start : goal.write_plan-overflow_add-start
-write_plan-overflow_add-start t c = omega (arith, c.requires.below)
-
-pub write_plan-overflow_add-first-in-Differences : goal.write_plan-overflow_add-first-in-Differences
-write_plan-overflow_add-first-in-Differences t c = omega (arith, fit-list c.requires)
-
 -- ---- write_runs
 
 pub write_runs-overflow_cast-k : goal.write_runs-overflow_cast-k
@@ -96,18 +84,10 @@ write_runs-write_plan-end-requires t c =
     let few = runs_fit c.requires c.runs_into-k.ensures in
     (omega (arith), fit-part c.requires few (omega arith) (omega arith) c.runs_into-k.auto.work)
 
-pub write_runs-overflow_sub-stop : goal.write_runs-overflow_sub-stop
-write_runs-overflow_sub-stop t c =
-    let ended = values-end c.requires c.runs_into-k.ensures _ _ (λ i. search rules) c.write_plan-end.ensures in
-    omega (arith, ended.after)
-
 pub write_runs-overflow_cast-stop : goal.write_runs-overflow_cast-stop
 write_runs-overflow_cast-stop t c =
     let ended = values-end c.requires c.runs_into-k.ensures _ _ (λ i. search rules) c.write_plan-end.ensures in
     omega (arith, ended.after, ended.before, c.requires.small)
-
-pub write_runs-overflow_add-first-2 : goal.write_runs-overflow_add-first-2
-write_runs-overflow_add-first-2 t c = omega (arith, c.requires.within)
 
 pub write_runs-write_plan-requires : goal.write_runs-write_plan-requires
 write_runs-write_plan-requires t c =
@@ -126,23 +106,3 @@ write_runs-returns t c =
 pub write_runs-runs_into-k-requires : goal.write_runs-runs_into-k-requires
 write_runs-runs_into-k-requires t c = (fit-three c.requires, omega (arith, c.requires.few))
 
-pub write_runs-put_word-requires : goal.write_runs-put_word-requires
-write_runs-put_word-requires t c = omega (arith, c.requires.below)
-
-pub write_runs-overflow_mul-n : goal.write_runs-overflow_mul-n
-write_runs-overflow_mul-n t c = omega (arith, c.requires.few)
-
-pub write_runs-overflow_add-first : goal.write_runs-overflow_add-first
-write_runs-overflow_add-first t c = omega (arith, c.requires.within)
-
-pub write_runs-overflow_add-start : goal.write_runs-overflow_add-start
-write_runs-overflow_add-start t c = omega (arith, c.requires.below)
-
-pub write_runs-overflow_add-start-2 : goal.write_runs-overflow_add-start-2
-write_runs-overflow_add-start-2 t c = omega (arith, c.requires.below)
-
-pub write_runs-overflow_add-start-3 : goal.write_runs-overflow_add-start-3
-write_runs-overflow_add-start-3 t c = omega (arith, c.requires.below)
-
-pub write_runs-put_word-requires-2 : goal.write_runs-put_word-requires-2
-write_runs-put_word-requires-2 t c = omega (arith, c.requires.below)
