@@ -9,7 +9,8 @@ use Rattle.meaning.specs.Limits.{plan_bytes}
 use Rattle.meaning.specs.Lists.{sum}
 use Rattle.meaning.specs.Operations.{Order, listed_by, orders_of}
 use Rattle.meaning.specs.Plan.{plan_used}
-use Rattle.writer.specs.Orders.{columns_by, blank_listed, list_start, plan_given, listed_at}
+use Rattle.writer.specs.declared.orders.Orders.{Orders}
+use Rattle.writer.specs.Orders.{columns_by, columns_of, blank_listed, list_start, plan_given, listed_at}
 
 -- ---- as many as there are kinds
 pub order-count : (kinds plans counts : List ℕ) → length (orders_of kinds plans counts) ≡ length kinds
@@ -24,6 +25,9 @@ listed-count (o ∷ os) numbers = ap suc (listed-count os (drop o.count numbers)
 
 pub column-count : (kinds plans counts numbers : List ℕ) → length (columns_by kinds plans counts numbers) ≡ length kinds
 column-count kinds plans counts numbers = listed-count (orders_of kinds plans counts) numbers ∙ order-count kinds plans counts
+
+pub columns-count : (o : Orders) → length (columns_of o) ≡ length o.kinds.now
+columns-count o = column-count o.kinds.now o.plans.now o.counts.now o.joined.now
 
 -- ---- one more of each
 plan-next : (plans : List ℕ) (k : ℕ) → plan_given (drop plan_bytes plans) k ≡ plan_given plans (suc k)

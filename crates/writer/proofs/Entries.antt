@@ -1,23 +1,20 @@
 -- The plan really used, and an entry's bytes. Assumes nothing.
-use Prim.Native.Nat.{ℕ, suc, ◌+◌, ◌-◌, ◌≤◌}
-use mathlib.Core.Path.{◌≡◌, refl, sym, ap, ap₂, ◌∙◌}
+use Prim.Native.Nat.{ℕ, suc, ◌+◌}
+use mathlib.Core.Path.{◌≡◌, refl, ap, ◌∙◌}
 use mathlib.Core.Bool.{Bool, true, false, ◌&&◌, cond}
 use mathlib.Core.List.{List, ◌∷◌, ◌++◌, append_assoc}
 use native.Mathlib.Omega.{arith}
 use lib.Dec.{eqb}
-use lib.ListN.{length, take, drop, set, replicate, length-append}
-use lib.Seq.{sets, take_all}
+use lib.ListN.{length, set, replicate, length-append}
+use lib.Seq.{sets}
 use borrow.Author.Tests.{eq-eqb}
 use Rattle.meaning.specs.Bytes.{word}
 use Rattle.meaning.specs.Limits.{plan_bytes, rising}
 use Rattle.meaning.specs.Lists.{all}
-use Rattle.meaning.specs.Places.{part}
 use Rattle.meaning.specs.Plan.{default_plan, plan_used}
 use Rattle.meaning.specs.Sheet.{Entry, plan_in, count_in, size_in, entry_bytes}
 use Rattle.meaning.proofs.Stores.{sets-append}
 use Rattle.words.proofs.Words.{word-length}
-use Rattle.leaves.proofs.Parts.{part_length}
-use Rattle.stages.proofs.Copies.{copy-whole}
 
 -- ---- 15 zeros mean the default
 module _ (kind : ℕ) (bytes : List ℕ) where
@@ -72,27 +69,10 @@ entry-put edition e o at l =
 
 -- the same from what each part's function says
 pub entry-laid : (edition : ℕ) (e : Entry) (o o₁ o₂ o₃ o₄ : List ℕ) (at : ℕ) → length e.plan ≡ plan_bytes
-    → o₁ ≡ set o at e.kind → o₂ ≡ sets o₁ (at + plan_in) (part e.plan 0 plan_bytes)
+    → o₁ ≡ set o at e.kind → o₂ ≡ sets o₁ (at + plan_in) e.plan
     → o₃ ≡ sets o₂ (at + count_in) (word e.count) → o₄ ≡ sets o₃ (at + size_in) (word e.size) → o₄ ≡ sets o at (entry_bytes edition e)
 entry-laid edition e o o₁ o₂ o₃ o₄ at l e₁ e₂ e₃ e₄ =
-    let whole : part e.plan 0 plan_bytes ≡ e.plan = take_all plan_bytes e.plan (omega arith) in
     e₄
     ∙ ap (λ (x : List ℕ). sets x (at + size_in) (word e.size))
-    (e₃ ∙ ap (λ (x : List ℕ). sets x (at + count_in) (word e.count)) (e₂ ∙ ap₂ (λ (x p : List ℕ). sets x (at + plan_in) p) e₁ whole))
+    (e₃ ∙ ap (λ (x : List ℕ). sets x (at + count_in) (word e.count)) (e₂ ∙ ap (λ (x : List ℕ). sets x (at + plan_in) e.plan) e₁))
     ∙ entry-put edition e o at l
-
--- ---- the plan used, from a part of the plans
-module _ (kind : ℕ) (plans : List ℕ) (from : ℕ) (fits : from + plan_bytes ≤ length plans)
-    (t : Bool) (is : t ≡ all (eqb 0) (take (from + plan_bytes - from) (drop from plans))) where
-  blank-is : t ≡ all (eqb 0) (part plans from plan_bytes)
-  blank-is = let e : from + plan_bytes - from ≡ plan_bytes = omega arith in is ∙ ap (λ (k : ℕ). all (eqb 0) (take k (drop from plans))) e
-
-  pub default-used : t ≡ true → (r : List ℕ) → r ≡ default_plan kind → r ≡ plan_used kind (part plans from plan_bytes)
-  default-used h r e = e ∙ used-blank kind (part plans from plan_bytes) (part_length plans from plan_bytes fits) (sym blank-is ∙ h)
-
-  pub copy-used : t ≡ false → (o r : List ℕ) → length o ≡ plan_bytes → r ≡ sets o 0 (part plans from plan_bytes)
-      → r ≡ plan_used kind (part plans from plan_bytes)
-  copy-used h o r l e =
-      e
-      ∙ copy-whole o (part plans from plan_bytes) (l ∙ sym (part_length plans from plan_bytes fits))
-      ∙ used-given kind (part plans from plan_bytes) (sym blank-is ∙ h)

@@ -1,12 +1,14 @@
 -- Counts: their sums, where lists begin, and the largest. Assumes nothing.
-use Prim.Native.Nat.{ℕ, zero, suc, ◌+◌, ◌*◌, ◌≤◌, ◌<◌, max}
-use mathlib.Core.Path.{◌≡◌, refl, ap, ◌∙◌}
+use Prim.Native.Nat.{ℕ, zero, suc, ◌+◌, ◌*◌, ◌≤◌, ◌<◌}
+use mathlib.Core.Path.{◌≡◌, refl}
 use mathlib.Core.List.{List, [], ◌∷◌}
 use native.Mathlib.Numerals.{add-one}
 use native.Mathlib.Omega.{arith}
-use lib.ListN.{length, get_or, take, drop, drop_of_length-le}
-use lib.Seq.{take-suc, take-length, drop-cons}
-use Rattle.meaning.specs.Limits.{number_limit, most_numbers}
+use lib.ListN.{length, get_or, take}
+use lib.Seq.{take-suc}
+use Rattle.std.specs.Option.{MatchOption, unwrap_or}
+use Rattle.std.specs.Prelude.{Option, None, Some}
+use Rattle.meaning.specs.Limits.{most_numbers}
 use Rattle.meaning.specs.Lists.{sum, largest}
 use Rattle.leaves.proofs.Joined.{sum-append}
 use Rattle.writer.specs.Orders.{list_start}
@@ -32,51 +34,24 @@ start_small counts h zero = omega arith
 start_small [] h (suc k) = omega arith
 start_small (c ∷ counts) h (suc k) = omega (arith, h 0, start_small counts (λ (i : ℕ). h (suc i)) k)
 
--- ---- the sum: that of the counts below k
-pub record Summing (counts : List ℕ) (s k : ℕ) : Type 0 where
-  pub is : s ≡ list_start counts k
-  pub most : k ≤ length counts
-  pub small : s ≤ number_limit * k
-
-pub summing_start : {counts : List ℕ} → Summing counts 0 0
-unfolding sum
-summing_start = record { is = refl; most = omega arith; small = omega arith }
-
-module _ {counts : List ℕ} {s k : ℕ} (so : Summing counts s k) where
-  pub summing-turn : k < length counts → {x : ℕ} → x ≡ get_or counts k 0 → x < number_limit → Summing counts (s + x) (k + 1)
-  summing-turn h e l =
-      record { is = omega (arith, so.is, start-next counts k h); most = omega arith; small = omega (arith, so.small) }
-
-  pub summing-end : length counts ≤ k → s ≡ sum counts
-  summing-end h =
-      let e : k ≡ length counts = omega (arith, so.most) in
-      so.is ∙ ap (list_start counts) e ∙ ap sum (take-length counts)
-
--- ---- the largest: m is that of the counts below k
-pub record Largest (counts : List ℕ) (m k : ℕ) : Type 0 where
-  pub rest : largest counts ≡ max m (largest (drop k counts))
-  pub small : m < number_limit
-
-pub largest-start : {counts : List ℕ} → Largest counts 0 0
-largest-start = record { rest = omega arith; small = omega arith }
-
-module _ {counts : List ℕ} {m k : ℕ} (so : Largest counts m k) where
-  pub largest-turn : k < length counts → {x m' : ℕ} → x ≡ get_or counts k 0 → x < number_limit → m' ≡ max m x → Largest counts m' (k + 1)
-  unfolding largest
-  largest-turn h e l f =
-      let next : largest (drop k counts) ≡ max (get_or counts k 0) (largest (drop (suc k) counts)) = ap largest (drop-cons counts k 0 h) in
-      let one : largest (drop (suc k) counts) ≡ largest (drop (k + 1) counts) = rw add-one in
-      record { rest = omega (arith, so.rest); small = omega (arith, so.small) }
-
-  pub largest-end : length counts ≤ k → (m ≡ largest counts) × (m < number_limit)
-  unfolding largest
-  largest-end h =
-      let none : largest (drop k counts) ≡ 0 = ap largest (drop_of_length-le counts {i = k} h) in
-      (omega (arith, so.rest), so.small)
-
 -- none is above the largest
 pub each-largest : (counts : List ℕ) (k : ℕ) → get_or counts k 0 ≤ largest counts
 unfolding largest
 each-largest [] k = omega arith
 each-largest (c ∷ counts) zero = omega arith
 each-largest (c ∷ counts) (suc k) = omega (arith, each-largest counts k)
+
+-- ---- the largest: one of them, and none is above it
+abbrev pub Highest : List ℕ → ℕ → Type 0
+Highest xs m = ((k : ℕ) → k < length xs → get_or xs k 0 ≤ m) × ((k : ℕ) × (k < length xs) × (get_or xs k 0 ≡ m))
+
+largest-most : (m : ℕ) (xs : List ℕ) → ((k : ℕ) → k < length xs → get_or xs k 0 ≤ m) → largest xs ≤ m
+unfolding largest
+largest-most m [] h = omega arith
+largest-most m (x ∷ xs) h = omega (arith, h 0, largest-most m xs (λ k l. h (suc k) (omega arith)))
+
+pub largest-is : (xs : List ℕ) (o : Option ℕ) → MatchOption o (length xs ≡ 0) (Highest xs) → unwrap_or o 0 ≡ largest xs
+unfolding largest
+largest-is [] None h = refl
+largest-is (x ∷ xs) None h = absurd (omega arith)
+largest-is xs (Some m) (h, (k, l, e)) = omega (arith, each-largest xs k, largest-most m xs h)

@@ -8,10 +8,14 @@ use Rattle.meaning.specs.Operations.{Order, listed_by, orders_hold, orders_of}
 use Rattle.meaning.specs.Plan.{judge_plan, plan_used}
 use Rattle.meaning.specs.Sheet.{Listed, of_kind, body_of, column_for, entry_of, entry_bytes}
 use Rattle.meaning.specs.declared.Offset.{Offset}
+use Rattle.writer.specs.declared.orders.Orders.{Orders}
 
 -- the columns that the slices make
 abbrev pub columns_by : List ℕ → List ℕ → List ℕ → List ℕ → List Listed
 columns_by kinds plans counts numbers = listed_by (orders_of kinds plans counts) numbers
+
+abbrev pub columns_of : Orders → List Listed
+columns_of o = columns_by o.kinds.now o.plans.now o.counts.now o.joined.now
 
 -- what stands for a column that is not there
 abbrev pub blank_listed : Listed
@@ -56,13 +60,16 @@ long_together kinds plans counts = eqb (length plans) (plan_bytes * length kinds
 abbrev pub slices_hold : List ℕ → List ℕ → List ℕ → List ℕ → Bool
 slices_hold kinds plans counts numbers = long_together kinds plans counts && orders_hold (orders_of kinds plans counts) numbers
 
+abbrev pub hold : Orders → Bool
+hold o = slices_hold o.kinds.now o.plans.now o.counts.now o.joined.now
+
 -- ---- what slices that hold are to those who go over them
-pub record Ordered (kinds plans counts numbers : List ℕ) : Type 0 where
-  pub few : length kinds ≤ most_columns
-  pub planned : length plans ≡ plan_bytes * length kinds
-  pub counted : length counts ≡ length kinds
-  pub small : (k : ℕ) → get_or counts k 0 ≤ most_numbers
-  pub whole : sum counts ≡ length numbers
+pub record Ordered (o : Orders) : Type 0 where
+  pub few : length o.kinds.now ≤ most_columns
+  pub planned : length o.plans.now ≡ plan_bytes * length o.kinds.now
+  pub counted : length o.counts.now ≡ length o.kinds.now
+  pub small : (k : ℕ) → get_or o.counts.now k 0 ≤ most_numbers
+  pub whole : sum o.counts.now ≡ length o.joined.now
 
 -- a sheet's bytes laid into an output from its start on, as far as they lie within it: r is how many there are, or is above 65,536 where they are
 pub record Laid (bytes o o' : List ℕ) (r : ℕ) : Type 0 where

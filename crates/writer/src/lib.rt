@@ -4,14 +4,14 @@
 
 ghost use Rattle.meaning.specs.Promises.{WritesApart};
 
+use crate::orders::Orders;
 use crate::sheets::put_sheet;
-use crate::slices::{judge_orders, largest_of, lists_rise, orders_hold};
 use meaning::{MOST_BYTES, Refusal};
 use table::rules::is_edition;
 
+mod orders;
 mod plans;
 mod sheets;
-mod slices;
 
 // Writes a sheet of an edition at the start of an output, with work for 7 times the largest list. A refusal leaves the output as it was.
 pub fn write(
@@ -26,28 +26,32 @@ pub fn write(
     ensures { WritesApart edition kinds.now plans.now counts.now joined.now work.old
         out.old (result, out.new) }
 {
+    let orders = Orders {
+        kinds,
+        plans,
+        counts,
+        joined,
+    };
     if !is_edition(edition) {
         return Err(Refusal::BadOrders);
     }
-    if !orders_hold(kinds, plans, counts, joined) {
+    if !orders.hold() {
         return Err(Refusal::BadOrders);
     }
-    judge_orders(kinds, plans)?;
-    if !lists_rise(edition, kinds, counts, joined) {
+    orders.judge()?;
+    if !orders.rise(edition) {
         return Err(Refusal::Falls);
     }
-    if work.len() < 7 * largest_of(counts) {
+    if work.len() < 7 * orders.largest() {
         return Err(Refusal::ShortWork);
     }
     let mut spare = [0u8; 1];
-    let size = put_sheet(edition, kinds, plans, counts, joined, work, &mut spare);
+    let size = put_sheet(edition, &orders, work, &mut spare);
     if MOST_BYTES < size {
         return Err(Refusal::NoRoom);
     }
     if out.len() < size {
         return Err(Refusal::NoRoom);
     }
-    Ok(put_sheet(
-        edition, kinds, plans, counts, joined, work, out,
-    ))
+    Ok(put_sheet(edition, &orders, work, out))
 }

@@ -3,8 +3,9 @@ ghost use Rattle.std.specs.Prelude.{◌≡◌, ℕ, ◌*◌, ◌≤◌, length, 
 ghost use Rattle.std.proofs.lemmas.List.Edits.{sets};
 ghost use Rattle.meaning.specs.Limits.{most_bytes, plan_bytes};
 ghost use Rattle.meaning.specs.Sheet.{entry_bytes, sheet_bytes};
-ghost use Rattle.writer.specs.Orders.{columns_by, Ordered, Laid, Room, ColumnPut};
+ghost use Rattle.writer.specs.Orders.{columns_of, Ordered, Laid, Room, ColumnPut};
 
+use crate::orders::Orders;
 use crate::plans::{put_bytes, used_plan};
 use leaves::put;
 use meaning::{MOST_BYTES, Offset, PLAN_BYTES};
@@ -23,8 +24,6 @@ fn put_entry(edition: u8, out: &mut [u8], at: Offset, kind: u8, plan: &[u8], cou
     put(out, at, kind);
     put_bytes(
         plan,
-        Offset { byte: 0 },
-        PLAN_BYTES,
         out,
         Offset {
             byte: start + PLAN_IN,
@@ -72,38 +71,26 @@ pub fn put_column(
 }
 
 // Lays a sheet of an edition down from the start of an output on, as far as it lies within. Answers its size; one above 65,536 ends the pass.
-pub fn put_sheet(
-    edition: u8,
-    kinds: &[u8],
-    plans: &[u8],
-    counts: &[u32],
-    joined: &[u32],
-    work: &mut [u32],
-    out: &mut [u8],
-) -> usize
-    requires { Ordered kinds.now plans.now counts.now joined.now × ((k : ℕ) → 7 * get_or counts.now k 0 ≤ length work.old) }
-    ensures { Laid (sheet_bytes edition (columns_by kinds.now plans.now counts.now joined.now))
-        out.old out.new result }
+pub fn put_sheet(edition: u8, orders: &Orders, work: &mut [u32], out: &mut [u8]) -> usize
+    requires { Ordered orders.now × ((k : ℕ) → 7 * get_or orders.now.counts.now k 0 ≤ length work.old) }
+    ensures { Laid (sheet_bytes edition (columns_of orders.now)) out.old out.new result }
 {
-    let n = kinds.len();
+    let n = orders.kinds.len();
     put(out, Offset { byte: 0 }, edition);
     put(out, Offset { byte: 1 }, n as u8);
     let mut at = entry_start(edition, n);
     let mut from: usize = 0;
-    let mut k: usize = 0;
-    while k < n {
-        let kind = kinds[k];
-        let many = counts[k] as usize;
+    for (k, &kind) in orders.kinds.iter().enumerate() {
+        let many = orders.counts[k] as usize;
         let first = PLAN_BYTES * k;
-        let plan = used_plan(kind, plans, Offset { byte: first });
-        copy_list(&joined[from..from + many], work);
+        let plan = used_plan(kind, &orders.plans[first..first + PLAN_BYTES]);
+        copy_list(&orders.joined[from..from + many], work);
         let slot = entry_start(edition, k);
         at = put_column(edition, kind, &plan, work, many, out, slot, at);
         if MOST_BYTES < at.byte {
             return at.byte;
         }
         from += many;
-        k += 1;
     }
     at.byte
 }

@@ -1,10 +1,6 @@
 -- `put_sheet` has laid the columns below k. Assumes nothing.
-use Prim.Native.Nat.{◌-◌}
 use Rattle.writer.proofs.Passes.{Passing}
 use Rattle.writer.proofs.sheets.put_sheet.Given as goal
 
 abbrev pub invariant-loop-k : goal.invariant-loop-k
-invariant-loop-k l = Passing l.edition l.kinds l.plans l.counts l.joined l.initial.work l.initial.out l.n l.work l.out l.at.byte l.from l.k
-
-abbrev pub decreases-loop-k : goal.decreases-loop-k
-decreases-loop-k l = l.n - l.k
+invariant-loop-k l = Passing l.edition l.orders l.initial.work l.initial.out l.n l.work l.out l.at.byte l.from l.k
