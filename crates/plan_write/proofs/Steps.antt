@@ -13,7 +13,7 @@ use Rattle.meaning.specs.Plan.{Plan, bad, code, reference, differences, runs, pl
 use Rattle.meaning.specs.Stages.{least, less_before, run_values, run_lengths, write}
 use Rattle.meaning.specs.declared.Offset.{Offset}
 use Rattle.meaning.proofs.Stores.{sets-append, sets-swap, take-sets, part-sets, part_same}
-use Rattle.words.proofs.Bytes.{bytes-length}
+use Rattle.words.proofs.Words.{word-length}
 use Rattle.leaves.proofs.Parts.{part_length}
 use Rattle.codes.proofs.Numbered.{laws}
 use Rattle.stages.specs.Runs.{RunsMade}
@@ -36,10 +36,6 @@ write-cap : (l : ℕ) (bytes : List ℕ) (pos : ℕ) (ys : List ℕ) (n : ℕ) �
 write-cap l bytes pos ys n b h few =
     let p = plan_at l bytes pos in
     omega (arith, most laws p ys b (omega arith), worst-grows laws p (length ys) n h, worst-cap laws l bytes pos n)
-
-word-length : (x : ℕ) → length (word x) ≡ 4
-unfolding word
-word-length x = bytes-length 4 x
 
 -- ---- the room that is asked for
 module _ {l n from at len : ℕ} (f : Fit l n from at len) where

@@ -1,5 +1,6 @@
 // Writing a list by a plan. The lists live in one slice, work: the list from a place on, scratch after it.
 // Bytes are put where they lie within the output, so a call with an empty output tells the size and writes nothing.
+// kept: a list in work is told by its place and its count, since the inner plan's list is made behind it in the same slice.
 #![tactic(auto)]
 
 ghost use Rattle.std.specs.Prelude.{◌+◌, ◌*◌, ◌^◌, ◌≤◌, ◌<◌, length, take};

@@ -7,7 +7,7 @@ use native.Mathlib.Omega.{arith}
 use lib.Dec.{leb, eqb}
 use lib.ListN.{length, get_or, drop, length-drop}
 use lib.Seq.{length-take-le}
-use borrow.Author.Tests.{le-leb, lt-leb, leb-true, eq-eqb, ne_eqb, eqb-true}
+use borrow.Author.Tests.{le-leb, lt-leb, leb-true, eq-eqb, eqb-true}
 use Rattle.meaning.specs.Limits.{most_columns, most_numbers, plan_bytes, rising}
 use Rattle.meaning.specs.Lists.{all, sum}
 use Rattle.meaning.specs.Operations.{Order, orders_of, orders_hold, listed_by}
@@ -75,22 +75,14 @@ module _ (o : Orders) where
   hold-many h =
       and_last (long_together o.kinds.now o.plans.now o.counts.now) _ (rw (lt-leb (length each) most_columns (omega (arith, each-count))))
 
-  pub hold-plans : (length o.plans.now ≡ plan_bytes * length o.kinds.now → ⊥) → false ≡ hold o
-  hold-plans h = rw (ne_eqb (length o.plans.now) (plan_bytes * length o.kinds.now) h)
-
-  module _ (planned : length o.plans.now ≡ plan_bytes * length o.kinds.now) where
-    pub hold-counts : (length o.counts.now ≡ length o.kinds.now → ⊥) → false ≡ hold o
-    hold-counts h =
-        rw (eq-eqb (length o.plans.now) (plan_bytes * length o.kinds.now) planned, ne_eqb (length o.counts.now) (length o.kinds.now) h)
-
-    pub hold-rest : length o.kinds.now ≤ most_columns → length o.counts.now ≡ length o.kinds.now
-        → all order_holds each && eqb (sum o.counts.now) (length o.joined.now) ≡ hold o
-    unfolding orders_hold
-    hold-rest few counted =
-        rw (eq-eqb (length o.plans.now) (plan_bytes * length o.kinds.now) planned, eq-eqb (length o.counts.now) (length o.kinds.now) counted)
-        (rw (le-leb (length each) most_columns (omega (arith, each-count)))
-        (ap (λ (l : List ℕ). all order_holds each && eqb (sum l) (length o.joined.now))
-        (sym (order-counts o.kinds.now o.plans.now o.counts.now counted))))
+  pub hold-rest : length o.plans.now ≡ plan_bytes * length o.kinds.now → length o.kinds.now ≤ most_columns → length o.counts.now ≡ length o.kinds.now
+      → all order_holds each && eqb (sum o.counts.now) (length o.joined.now) ≡ hold o
+  unfolding orders_hold
+  hold-rest planned few counted =
+      rw (eq-eqb (length o.plans.now) (plan_bytes * length o.kinds.now) planned, eq-eqb (length o.counts.now) (length o.kinds.now) counted)
+      (rw (le-leb (length each) most_columns (omega (arith, each-count)))
+      (ap (λ (l : List ℕ). all order_holds each && eqb (sum l) (length o.joined.now))
+      (sym (order-counts o.kinds.now o.plans.now o.counts.now counted))))
 
 counts-small : (kinds plans counts : List ℕ) → length counts ≡ length kinds → all order_holds (orders_of kinds plans counts) ≡ true
     → (k : ℕ) → get_or counts k 0 ≤ most_numbers

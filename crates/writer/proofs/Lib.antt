@@ -2,7 +2,6 @@
 pub mod Columns
 pub mod Sums
 pub mod Entries
-pub mod PutColumn
 pub mod Laying
 pub mod Holds
 pub mod Order

@@ -13,12 +13,11 @@ use Rattle.meaning.specs.Sheet.{Listed, column_for, entry_of, sheet_bytes}
 use Rattle.meaning.specs.declared.Offset.{Offset}
 use Rattle.leaves.proofs.Parts.{part_length}
 use Rattle.table.specs.Offsets.{entry_offset}
-use Rattle.writer.specs.Orders.{blank_listed, columns_of, list_start, plan_given, listed_at, Ordered, Laid, Room, ColumnPut, entry_laid}
+use Rattle.writer.specs.Orders.{blank_listed, columns_of, list_start, plan_given, listed_at, Ordered, Laid, ColumnPut, entry_laid}
 use Rattle.writer.specs.declared.orders.Orders.{Orders}
 use Rattle.writer.proofs.Columns.{columns-count, column-is}
 use Rattle.stages.proofs.Copies.{copy-back}
 use Rattle.table.proofs.EntryFormat.{entry-long}
-use Rattle.table.proofs.Slots.{slot_small}
 use Rattle.writer.proofs.Entries.{used-long}
 use Rattle.writer.proofs.Laying.{Laying, Entries, laying-start, laying-turn, laying-over, laying-end}
 use Rattle.writer.proofs.Sums.{start-next, start_small, list-within}
@@ -64,13 +63,6 @@ module _ {edition : ℕ} {o : Orders} {w₀ head : List ℕ} {n : ℕ} {w out : 
     abbrev many : ℕ
     many = get_or o.counts.now k 0
 
-    -- its slot is one of the table's
-    slot-low : entry_offset edition k ≤ most_bytes
-    slot-low = omega (arith, ord.few, slot_small edition k)
-
-    pub passing-slot : entry_offset edition k < 2 ^ 64
-    passing-slot = omega (arith, slot-low)
-
     -- list k lies within the joined lists
     pub passing-list : from + many ≤ length o.joined.now
     passing-list = omega (arith, so.starts, ord.whole, list-within o.counts.now k (omega (arith, h, ord.counted)))
@@ -85,17 +77,6 @@ module _ {edition : ℕ} {o : Orders} {w₀ head : List ℕ} {n : ℕ} {w out : 
       passing-work = omega (arith, room k, so.work_long)
 
       module _ {plan : List ℕ} (ep : plan ≡ plan_used (get_or o.kinds.now k 0) (plan_given o.plans.now k)) where
-        -- what putting the column asks
-        pub passing-room : {work slot : ℕ} → work ≡ length w → slot ≡ entry_offset edition k → Room plan work many slot at
-        passing-room l es =
-            record {
-              planned = ap length ep ∙ plan-long ord k h;
-              few = ord.small k;
-              scratch = omega (arith, room k, so.work_long);
-              low = omega (arith, slot-low);
-              below = so.laid.below;
-            }
-
         module _ {w₁ : List ℕ} (ew : w₁ ≡ sets w 0 (part o.joined.now from many)) {slot : ℕ} {out' : List ℕ} {end : Offset}
             (put : ColumnPut edition (record { kind = get_or o.kinds.now k 0; plan = plan; numbers = take many w₁ }) slot at out out' end) where
           numbers-are : take many w₁ ≡ part o.joined.now (list_start o.counts.now k) many

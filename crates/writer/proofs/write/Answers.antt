@@ -21,13 +21,6 @@ returns-then-not-hold c =
     refuse-orders a.edition o a.work.now a.out.now (sym c.is_edition.ensures ∙ c.if-not-is_edition.false) (sym c.hold.ensures ∙ c.if-not-hold.true)
 
 -- ---- each plan in turn
-pub judge-requires : goal.judge-requires
-judge-requires c =
-    let a = c.args in
-    let o : Orders = record { kinds = a.kinds; plans = a.plans; counts = a.counts; joined = a.joined } in
-    let past = past-orders a.edition o a.work.now a.out.now (sym c.is_edition.ensures ∙ c.if-not-is_edition.false) (sym c.hold.ensures ∙ c.if-not-hold.false) in
-    past.ordered.planned
-
 pub returns-in_err-judge : goal.returns-in_err-judge
 returns-in_err-judge c =
     let a = c.args in

@@ -1,12 +1,12 @@
 -- `put_sheet` has laid the columns below k. Assumes nothing.
 use mathlib.Core.Path.{refl, ◌∙◌}
 use native.Mathlib.Omega.{arith}
-use Prim.Native.Nat.{ℕ, ◌*◌}
-use lib.ListN.{length, get_or, length-take}
+use Prim.Native.Nat.{◌*◌}
+use lib.ListN.{length, get_or}
 use Rattle.std.proofs.Math.Nat.{add-sub_cancel_left}
 use Rattle.meaning.specs.Limits.{plan_bytes}
 use Rattle.table.proofs.Slots.{slot_small}
-use Rattle.writer.proofs.Passes.{passing-start, passing-slot, passing-list, passing-work, passing-adds, passing-room, passing-turn, passing-over, passing-end}
+use Rattle.writer.proofs.Passes.{passing-start, passing-list, passing-adds, passing-turn, passing-over, passing-end}
 use Rattle.writer.proofs.sheets.put_sheet.Goals as goal
 
 -- ---- before the loop
@@ -22,20 +22,6 @@ offset_bounds-orders-from c = omega (arith, passing-adds c.loop-k.invariant c.re
 
 pub slice_bounds-copy_list-end : goal.slice_bounds-copy_list-end
 slice_bounds-copy_list-end c = passing-list c.loop-k.invariant c.requires.0 c.loop-k-test.true
-
-pub copy_list-requires : goal.copy_list-requires
-copy_list-requires c =
-    let many = get_or c.args.orders.now.counts.now c.loop-k.k 0 in
-    let room = passing-work c.loop-k.invariant c.requires.0 c.loop-k-test.true c.requires.1 in
-    rw (add-sub_cancel_left c.loop-k.from many) (omega (arith, room, length-take {A = ℕ}))
-
-pub entry_start-slot-requires : goal.entry_start-slot-requires
-entry_start-slot-requires c = passing-slot c.loop-k.invariant c.requires.0 c.loop-k-test.true
-
-pub put_column-at-requires : goal.put_column-at-requires
-put_column-at-requires c =
-    let plan = rw (add-sub_cancel_left (plan_bytes * c.loop-k.k) plan_bytes) at c.used_plan-plan.ensures in
-    passing-room c.loop-k.invariant c.requires.0 c.loop-k-test.true c.requires.1 plan c.copy_list.auto.out c.entry_start-slot.ensures
 
 pub returns-then-at-gt-MOST_BYTES : goal.returns-then-at-gt-MOST_BYTES
 returns-then-at-gt-MOST_BYTES c =

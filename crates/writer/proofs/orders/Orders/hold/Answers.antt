@@ -1,16 +1,10 @@
 -- `hold` asks all that 11 does. Assumes nothing.
 use mathlib.Core.Path.{sym, ◌∙◌}
-use Rattle.writer.proofs.Holds.{hold-many, hold-plans, hold-counts, hold-rest}
+use Rattle.writer.proofs.Holds.{hold-many, hold-rest}
 use Rattle.writer.proofs.orders.Orders.hold.Goals as goal
 
 pub returns-then-n-gt-MOST_COLUMNS : goal.returns-then-n-gt-MOST_COLUMNS
 returns-then-n-gt-MOST_COLUMNS c = hold-many c.args.self.now c.if-n-gt-MOST_COLUMNS.true
-
-pub returns-then-self-n : goal.returns-then-self-n
-returns-then-self-n c = hold-plans c.args.self.now c.if-self-n.true
-
-pub returns-then-self-n-2 : goal.returns-then-self-n-2
-returns-then-self-n-2 c = hold-counts c.args.self.now c.if-self-n.false c.if-self-n-2.true
 
 pub returns-then-each_holds : goal.returns-then-each_holds
 returns-then-each_holds c =
