@@ -37,11 +37,6 @@ list-lengths (k ∷ kinds) plans (c ∷ counts) numbers e s =
     (list-lengths kinds (drop plan_bytes plans) counts (drop c numbers) (omega arith) (omega (arith, length-drop c numbers)))
 
 -- ---- every order holds where every kind and every count does
-every : (test : ℕ → Bool) (xs : List ℕ) → list_all test xs ≡ all test xs
-unfolding all
-every test [] = refl
-every test (x ∷ xs) = ap (λ (t : Bool). test x && t) (every test xs)
-
 both-twice : (a b c d : Bool) → (a && b) && (c && d) ≡ (a && c) && (b && d)
 both-twice true true c d = refl
 both-twice true false true d = refl

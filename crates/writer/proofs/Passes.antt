@@ -25,7 +25,8 @@ use Rattle.writer.proofs.Sums.{start-next, start_small, list-within}
 module _ {o : Orders} (ord : Ordered o) where
   -- the plan used has its 15 bytes
   plan-long : (k : ℕ) → k < length o.kinds.now → length (listed_at o.kinds.now o.plans.now o.counts.now o.joined.now k).plan ≡ plan_bytes
-  plan-long k h = used-long (get_or o.kinds.now k 0) (plan_given o.plans.now k) (part_length o.plans.now (plan_bytes * k) plan_bytes (omega (arith, ord.planned)))
+  plan-long k h =
+      used-long (get_or o.kinds.now k 0) (plan_given o.plans.now k) (part_length o.plans.now (plan_bytes * k) plan_bytes (omega (arith, ord.planned)))
 
   each-entry : (edition : ℕ) → Entries edition (columns_of o)
   each-entry edition k h =
