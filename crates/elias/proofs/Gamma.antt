@@ -151,6 +151,17 @@ gamma-back z most l t hz b e =
     (form-back most m l d.after d.is (omega (arith, ap length d.is, form-length m d.after)) (omega arith)
     (λ i. below_right 2 (replicate m 0) (1 ∷ d.after) (rw d.is at b) (suc i)) (leb-true (behind m l) most r))
 
+-- how many bits it takes
+pub gamma-size : (z most : ℕ) (l : List ℕ) (t : ℕ × ℕ) → gamma_in z most l ≡ given t → t.1 ≤ 2 * z + 1
+unfolding gamma_in
+gamma-size z most l t e =
+    let m = zeros_first l in
+    let (p, e₁) = need-given (leb m z) broken _ t e in
+    let (q, e₂) = need-given (leb (2 * m + 1) (length l)) cut_short _ t e₁ in
+    let (r, e₃) = need-given (leb (behind m l) most) broken _ t e₂ in
+    let is : (behind m l, 2 * m + 1) ≡ t = cc in
+    omega (arith, leb-true m z p, ap (λ (u : ℕ × ℕ). u.1) is)
+
 pub word-gamma : Word 65 gamma_bits gamma_word
 unfolding gamma_word
 word-gamma =

@@ -5,10 +5,11 @@ use native.Mathlib.Nat.{pow-suc, lt_of_not-le}
 use native.Mathlib.Omega.{arith}
 use mathlib.Core.List.{List, ◌∷◌}
 use borrow.Author.Tests.{ne_eqb}
-use lib.Count.{count_leading_zeros, leading_top, leading_unique}
+use lib.Count.{leading_top}
 use lib.ListN.{length}
 use lib.Pow.{pow_mono, pow_pos, high, low}
 use Rattle.meaning.specs.Bits.{bits_high, number_high, digits_in, bit_length}
+use Rattle.meaning.specs.Limits.{number_limit}
 use Rattle.meaning.specs.Places.{Below}
 use Rattle.elias.proofs.Numbers.{number-after, number_small, number-high, high-number, high-low}
 
@@ -53,13 +54,9 @@ long-within m n v lo hi = within (lt_of_not-le (λ (h : suc n ≤ m). over (2 ^ 
     within : m < suc n → m ≤ n
     within h = omega arith
 
--- the machine's count of zeros gives it
-pub length-leading : (v : ℕ) → 0 < v → v < 2 ^ 33 → 64 - count_leading_zeros 64 v ≡ bit_length v
-length-leading v h k =
-    let (m, l) = long_of v h k in
-    let twice : 2 ^ suc m ≤ 2 * v + 1 = rw (pow-suc 2 m) (omega (arith, l.least)) in
-    let z = leading_unique 64 v (63 - m) (suc m) (omega (arith, l.short)) l.below twice in
-    omega (arith, l.is, l.short)
+-- the machine's logarithm gives it
+pub length-log : (m v : ℕ) → v ≤ number_limit → 2 ^ m ≤ v → v < 2 * 2 ^ m → Long m v
+length-log m v k lo hi = long m v (long-within m 32 v lo (omega arith)) lo (rw (pow-suc 2 m) (omega arith))
 
 -- ---- a one and then some bits
 module _ (t : List ℕ) (bits : Below 2 t) (few : length t ≤ 32) where

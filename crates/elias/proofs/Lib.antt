@@ -14,7 +14,6 @@ pub mod Laws
 pub mod Windows
 pub mod Seen
 pub mod Forms
-pub mod Looks
 pub mod Taking
 -- writing
 pub mod Pushing

@@ -28,23 +28,22 @@ pub record Writes (f : Form) (list : List ℕ) (at : ℕ) (out₀ out : List ℕ
   pub asked : Source list at
   pub few : wait.count < 8
   pub near : reach wait ≤ 8 * at + 65 * i
-  pub long : length out ≡ length out₀
   pub reached : reach wait + length (stream f (drop i list)) ≡ 8 * at + length (stream f list)
   pub same : sets out wait.at.byte (pack (waiting wait ++ stream f (drop i list))) ≡ sets out₀ at (pack (stream f list))
 
 module _ {f : Form} {list : List ℕ} {at : ℕ} {out₀ : List ℕ} where
   pub write-start : Source list at → Writes f list at out₀ out₀ (record { at = record { byte = at }; bits = 0; count = 0 }) 0
   unfolding bits_high
-  write-start s = record { asked = s; few = omega arith; near = omega arith; long = refl; reached = omega arith; same = refl }
+  write-start s = record { asked = s; few = omega arith; near = omega arith; reached = omega arith; same = refl }
 
   module _ {out : List ℕ} {wait : Pending} {i : ℕ} (w : Writes f list at out₀ out wait i) where
     pub write-room : {v : ℕ} → i < length list → 0 < v → v ≤ number_limit → Free wait (length (bits_of_word f v))
     write-room {v} h some few = record { few = w.few; low = omega (arith, w.near, w.asked.short, most-bits f v some few) }
 
     -- the next number's codeword was pushed
-    pub write-turn : {out' : List ℕ} {r : Pending} → i < length list → get_or list i 0 < number_limit → length out' ≡ length out
+    pub write-turn : {out' : List ℕ} {r : Pending} → i < length list → get_or list i 0 < number_limit
         → Pushed (bits_of_word f (get_or list i 0 + 1)) wait out out' r → Writes f list at out₀ out' r (i + 1)
-    write-turn h small l p =
+    write-turn h small p =
         let x = get_or list i 0 in
         let g = bits_of_word f (x + 1) in
         let next : stream f (drop i list) ≡ g ++ stream f (drop (i + 1) list) = joined-rest (λ n. bits_of_word f (n + 1)) list 0 i h in
@@ -54,7 +53,6 @@ module _ {f : Form} {list : List ℕ} {at : ℕ} {out₀ : List ℕ} where
           asked = w.asked;
           few = p.few;
           near = omega (arith, w.near, p.reached, most-bits f (x + 1) (omega arith) (omega arith));
-          long = l ∙ w.long;
           reached = omega (arith, w.reached, p.reached);
           same = p.same (stream f (drop (i + 1) list)) ∙ ap (λ (l : List ℕ). sets out wait.at.byte (pack (waiting wait ++ l))) (sym next) ∙ w.same;
         }
@@ -65,7 +63,8 @@ module _ {f : Form} {list : List ℕ} {at : ℕ} {out₀ : List ℕ} where
         let none : stream f (drop i list) ≡ [] = joined-past (λ n. bits_of_word f (n + 1)) list i h in
         let count : length (waiting wait) ≡ wait.count = high-length wait.count wait.bits in
         let all : length (stream f (drop i list)) ≡ 0 = ap length none in
-        let last : waiting wait ≡ waiting wait ++ stream f (drop i list) = sym (append-nil (waiting wait)) ∙ ap (λ (l : List ℕ). waiting wait ++ l) (sym none) in
+        let last : waiting wait ≡ waiting wait ++ stream f (drop i list) =
+        sym (append-nil (waiting wait)) ∙ ap (λ (l : List ℕ). waiting wait ++ l) (sym none) in
         rw (write-of f list)
         (record {
           ends = omega (arith, e.ends, pack-length (waiting wait), pack-length (stream f list), w.reached);

@@ -6,7 +6,7 @@ use native.Mathlib.Numerals.{add-one}
 use native.Mathlib.Omega.{arith}
 use mathlib.Core.List.{List, [], ◌∷◌, ◌++◌, append_assoc}
 use lib.Arith.{digits_lt}
-use lib.ListN.{length, drop, set, replicate, length-set, length-append, drop_of_length-le}
+use lib.ListN.{length, drop, set, replicate, length-append, drop_of_length-le}
 use lib.Pow.{pow_pos, pow-add}
 use lib.Seq.{sets}
 use Rattle.meaning.specs.Bits.{bits_high, number_high, pack}
@@ -23,7 +23,6 @@ use Rattle.elias.proofs.Windows.{shl-mod, shl-bits}
 pub record Emits (out₀ : List ℕ) (bits count₀ byte₀ : ℕ) (out : List ℕ) (count byte : ℕ) : Type 0 where
   pub reached : 8 * byte + count ≡ 8 * byte₀ + count₀
   pub fewer : count ≤ count₀
-  pub long : length out ≡ length out₀
   pub same : (rest : List ℕ) → sets out byte (pack (bits_high count bits ++ rest)) ≡ sets out₀ byte₀ (pack (bits_high count₀ bits ++ rest))
 
 -- the first byte of more than eight bits
@@ -35,9 +34,6 @@ first_byte bits out rest k byte =
     ∙ ap pack (sym (append_assoc (bits_high 8 (bits / 2 ^ k)) (bits_high k bits) rest) ∙ ap (λ (l : List ℕ). l ++ rest) (sym (high-split 8 k bits))))
 
 module _ {out₀ : List ℕ} {bits count₀ byte₀ : ℕ} where
-  pub emit-start : Emits out₀ bits count₀ byte₀ out₀ count₀ byte₀
-  emit-start = record { reached = refl; fewer = omega arith; long = refl; same = λ rest. refl }
-
   pub emit-turn : {out out' : List ℕ} {count byte : ℕ} → Emits out₀ bits count₀ byte₀ out count byte → 8 ≤ count
       → out' ≡ set out byte (bits / 2 ^ (count - 8) % 256) → Emits out₀ bits count₀ byte₀ out' (count - 8) (byte + 1)
   emit-turn {out} {out'} {count} {byte} e h is =
@@ -45,7 +41,6 @@ module _ {out₀ : List ℕ} {bits count₀ byte₀ : ℕ} where
       record {
         reached = omega (arith, e.reached);
         fewer = omega (arith, e.fewer);
-        long = ap length is ∙ length-set out byte (bits / 2 ^ (count - 8) % 256) ∙ e.long;
         same = λ rest.
             ap (λ (o : List ℕ). sets o (byte + 1) (pack (bits_high (count - 8) bits ++ rest))) is
             ∙ first_byte bits out rest (count - 8) byte

@@ -8,9 +8,9 @@ use mathlib.Core.List.{List, [], ◌∷◌}
 use borrow.Author.Tests.{le-leb, lt-ltb, le-ltb, ne_eqb}
 use lib.Count.{count_leading_zeros}
 use lib.Dec.{leb, ltb, eqb, eqb-zero-suc}
-use lib.ListN.{length, take, drop, replicate}
+use lib.ListN.{length, take, drop, replicate, length-drop}
 use lib.Pow.{pow_pos, pow_mono}
-use lib.Seq.{take-take, take-add, drop-drop, length-take-le}
+use lib.Seq.{take-take, take-add, drop_at, drop-drop, length-take-le, take-append-le}
 use Rattle.meaning.specs.Answer.{given, refused, bind, need}
 use Rattle.meaning.specs.Bits.{bits_high, bits_of, number_high, zeros_first}
 use Rattle.meaning.specs.Elias.{gamma_in, gamma_word, rest_in, delta_word, done_elias}
@@ -28,7 +28,7 @@ use Rattle.elias.proofs.Delta.{rest-short}
 use Rattle.elias.proofs.Gamma.{behind, in-many, in-short}
 use Rattle.elias.proofs.Numbers.{high-length, number_append, number-zeros, number-after, number_small}
 use Rattle.elias.proofs.Padding.{padded-there, padded-take}
-use Rattle.elias.proofs.Windows.{one_shl, top-list}
+use Rattle.elias.proofs.Windows.{one_shl, shl-drop, top-list}
 use Rattle.elias.proofs.Zeros.{zeros-agree, zeros-are, zeros_within, zeros-leading}
 
 -- ---- gamma
@@ -81,9 +81,11 @@ module _ (s : ℕ) (l : List ℕ) (fits : s < 2 ^ 64) (seen : take 57 (bits_high
       ∙ number_append 0 (take z l) (take (z + 1) (drop z l))
       ∙ ap (λ (a : ℕ). number_high a (take (z + 1) (drop z l))) (ap (number_high 0) zs ∙ number-zeros z)
 
--- what stands behind the zeros, from another bit on
-pub behind-further : (v p z : ℕ) (l : List ℕ) → v ≡ number_high 0 (take (z + 1) (drop (p + z) l)) → v ≡ behind z (drop p l)
-behind-further v p z l e = e ∙ ap (λ (r : List ℕ). number_high 0 (take (z + 1) r)) (sym (drop-drop z p l))
+-- what stands behind the zeros, seen by a look that begins there
+pub behind-looked : (u p z : ℕ) (l : List ℕ) {v : ℕ} → z ≤ 32 → z + 1 ≤ length (drop (p + z) l) → take 57 (bits_high 64 u) ≡ padded 57 (drop (p + z) l)
+    → v ≡ number_high 0 (take (z + 1) (bits_high 64 u)) → v ≡ behind z (drop p l)
+behind-looked u p z l few there seen e =
+    e ∙ ap (number_high 0) (top-list u (z + 1) (drop (p + z) l) (omega arith) there seen ∙ ap (take (z + 1)) (sym (drop-drop z p l)))
 
 -- ---- delta
 need-then : (b : Bool) (v k : ℕ) → need {A = ℕ × ℕ} b broken (given (v, k)) ≡ bind (need b broken (given v)) (λ x. given (x, k))
@@ -104,6 +106,20 @@ module _ (l : List ℕ) where
         → need (leb v number_limit) broken (given (v, size + (long - 1))) ≡ delta_word l
     unfolding delta_word rest_in
     delta-value v h e = rw (first, le-leb (long - 1) (length (drop size l)) h, ← e) (need-then (leb v number_limit) v (size + (long - 1)))
+
+-- so many bits behind others
+after-take : (k n : ℕ) (l : List ℕ) → k ≤ length l → take n (drop k l) ≡ drop k (take (k + n) l)
+after-take k n l h = sym (ap (drop k) (take-add k n l) ∙ drop_at (take k l) (take n (drop k l)) k (length-take-le k l h))
+
+-- bits of a list from the k-th on, where a number shows its first 57
+pub shifted-list : (s k n : ℕ) (l : List ℕ) → k + n ≤ 57 → k + n ≤ length l → take 57 (bits_high 64 s) ≡ padded 57 l
+    → take n (bits_high 64 ((s * 2 ^ k) % 2 ^ 64)) ≡ take n (drop k l)
+shifted-list s k n l h there seen =
+    ap (take n) (shl-drop 64 (64 - k) k s (omega arith))
+    ∙ take-append-le n (drop k (bits_high 64 s)) (bits_high k 0) (omega (arith, length-drop k (bits_high 64 s), high-length 64 s))
+    ∙ after-take k n (bits_high 64 s) (omega (arith, high-length 64 s))
+    ∙ ap (drop k) (top-list s (k + n) l h (omega arith) seen)
+    ∙ sym (after-take k n l (omega arith))
 
 -- a one before n bits that are there
 module _ (n t : ℕ) (r : List ℕ) (few : n ≤ 32) (there : n ≤ length r) (e : t ≡ number_high 0 (take n r)) where
@@ -150,14 +166,6 @@ all-padded (suc n) (x ∷ l) h = ap (λ (b : Bool). eqb 0 x && b) (all-padded n 
 module _ (body : List ℕ) (p : Position) where
   abbrev left : List ℕ
   left = drop p.bit.index (bits_of body)
-
-  pub seen_none : length left ≡ 0 → true ≡ done_elias body p
-  unfolding done_elias all
-  seen_none h = none left h
-    where
-      none : (l : List ℕ) → length l ≡ 0 → true ≡ (ltb (length l) 8 && all (eqb 0) l)
-      none [] e = refl
-      none (x ∷ l) e = absurd (omega arith)
 
   pub seen_more : 7 < length left → false ≡ done_elias body p
   unfolding done_elias

@@ -1,19 +1,24 @@
 -- Eight bytes as one number, shifted until its first bit is the one asked for. Assumes nothing.
 use mathlib.Core.Path.{◌≡◌, sym, ap, ap₂, ◌∙◌}
-use Prim.Native.Nat.{ℕ, ◌+◌, ◌-◌, ◌*◌, ◌/◌, ◌%◌, ◌^◌, ◌≤◌, ◌<◌}
+use Prim.Native.Nat.{ℕ, ◌+◌, ◌-◌, ◌*◌, ◌/◌, ◌%◌, ◌^◌, ◌≤◌, ◌<◌, min}
 use native.Mathlib.Nat.{zero-add, add-zero, one-mul, mul-mod_left, mod-eq_of_lt}
 use native.Mathlib.Omega.{arith}
 use mathlib.Core.List.{List, [], ◌∷◌, ◌++◌, append_assoc, append-nil}
-use lib.ListN.{length, get_or, take, drop, length-drop}
+use lib.ListN.{length, get_or, take, drop, replicate, length-drop}
 use lib.Pow.{pow_pos, pow-lt, mod-pow-add, shl-shr, shr-shr, shr_mod}
 use lib.Seq.{take-take, take-append-le, drop-drop}
 use Rattle.meaning.specs.Bits.{bits_high, bits_of, number_high}
 use Rattle.meaning.specs.Lists.{joined}
 use Rattle.leaves.proofs.Joined.{joined-append}
+use Rattle.std.proofs.lemmas.List.{take_all, drop_min, drop-replicate}
+use Rattle.std.specs.Int.{w64, from_be_bytes}
+use Rattle.meaning.specs.Places.{Below}
+use Rattle.meaning.proofs.Bounds.{below-drop}
+use Rattle.leaves.proofs.Parts.{part-each}
 use Rattle.elias.specs.Padded.{padded}
 use Rattle.elias.proofs.Numbers.{high-length, high-append, high-mod, high-take, high-drop, number-high}
 use Rattle.elias.proofs.Pack.{bits-drop, bits-padded}
-use Rattle.elias.proofs.Padding.{padded-eight, padded-take, padded-drop, padded-there}
+use Rattle.elias.proofs.Padding.{padded-length, padded-below, padded-whole, padded-take, padded-drop, padded-there}
 
 -- ---- bytes as a number
 four-bits : (a b c d : ℕ) → b < 256 → c < 256 → d < 256 → bits_high 32 (((a * 256 + b) * 256 + c) * 256 + d) ≡ bits_of (a ∷ b ∷ c ∷ d ∷ [])
@@ -26,7 +31,7 @@ four-bits a b c d hb hc hd =
     regroup : (p q r s : List ℕ) → ((p ++ q) ++ r) ++ s ≡ p ++ (q ++ (r ++ (s ++ [])))
     regroup p q r s = simp (append_assoc, append-nil)
 
-pub eight-bits : (a b c d e f g h : ℕ) → b < 256 → c < 256 → d < 256 → e < 256 → f < 256 → g < 256 → h < 256
+eight-bits : (a b c d e f g h : ℕ) → b < 256 → c < 256 → d < 256 → e < 256 → f < 256 → g < 256 → h < 256
     → bits_high 64 ((((a * 256 + b) * 256 + c) * 256 + d) * 4294967296 + (((e * 256 + f) * 256 + g) * 256 + h)) ≡ bits_of (a ∷ b ∷ c ∷ d ∷ e ∷ f ∷ g ∷ h ∷ [])
 unfolding bits_of
 eight-bits a b c d e f g h hb hc hd he hf hg hh =
@@ -34,18 +39,39 @@ eight-bits a b c d e f g h hb hc hd he hf hg hh =
     ∙ ap₂ (λ (x y : List ℕ). x ++ y) (four-bits a b c d hb hc hd) (four-bits e f g h hf hg hh)
     ∙ sym (joined-append (bits_high 8) (a ∷ b ∷ c ∷ d ∷ []) (e ∷ f ∷ g ∷ h ∷ []))
 
--- those from an offset on
-window-bits : (s : List ℕ) (k : ℕ)
-    → bits_of (get_or s k 0 ∷ get_or s (k + 1) 0 ∷ get_or s (k + 2) 0 ∷ get_or s (k + 3) 0
-    ∷ get_or s (k + 4) 0 ∷ get_or s (k + 5) 0 ∷ get_or s (k + 6) 0 ∷ get_or s (k + 7) 0 ∷ []) ≡ padded 64 (drop (8 * k) (bits_of s))
-window-bits s k = ap bits_of (sym (padded-eight k s)) ∙ bits-padded 8 (drop k s) ∙ ap (padded 64) (bits-drop k s)
+be-bits : (bs : List ℕ) → length bs ≡ 8 → Below 256 bs → bits_high 64 (from_be_bytes w64 bs) ≡ bits_of bs
+be-bits bs n h =
+    let x = λ (i : ℕ). get_or bs i 0 in
+    let sum : from_be_bytes w64 bs ≡ (((x 0 * 256 + x 1) * 256 + x 2) * 256 + x 3) * 4294967296 + (((x 4 * 256 + x 5) * 256 + x 6) * 256 + x 7) = omega arith in
+    let each : x 0 ∷ x 1 ∷ x 2 ∷ x 3 ∷ x 4 ∷ x 5 ∷ x 6 ∷ x 7 ∷ [] ≡ bs = sym (part-each 8 bs 0 (omega arith)) ∙ take_all 8 bs (omega arith) in
+    ap (bits_high 64) sum ∙ eight-bits (x 0) (x 1) (x 2) (x 3) (x 4) (x 5) (x 6) (x 7) (h 1) (h 2) (h 3) (h 4) (h 5) (h 6) (h 7) ∙ ap bits_of each
 
--- a number that has these bits, of bytes taken one by one
-pub window-of : (s : List ℕ) (k w a b c d e f g h : ℕ) → bits_high 64 w ≡ bits_of (a ∷ b ∷ c ∷ d ∷ e ∷ f ∷ g ∷ h ∷ [])
-    → a ≡ get_or s k 0 → b ≡ get_or s (k + 1) 0 → c ≡ get_or s (k + 2) 0 → d ≡ get_or s (k + 3) 0
-    → e ≡ get_or s (k + 4) 0 → f ≡ get_or s (k + 5) 0 → g ≡ get_or s (k + 6) 0 → h ≡ get_or s (k + 7) 0
+-- the number of eight bytes from an offset on
+pub window-bits : (s : List ℕ) (k : ℕ) {w : ℕ} {bs : List ℕ} → Below 256 s → bs ≡ padded 8 (drop k s) → w ≡ from_be_bytes w64 bs
     → bits_high 64 w ≡ padded 64 (drop (8 * k) (bits_of s))
-window-of s k w a b c d e f g h is ea eb ec ed ee ef eg eh = is ∙ rw (ea, eb, ec, ed, ee, ef, eg, eh) (window-bits s k)
+window-bits s k {w} {bs} h e is =
+    let l = padded 8 (drop k s) in
+    ap (bits_high 64) (is ∙ ap (from_be_bytes w64) e) ∙ be-bits l (padded-length 8 (drop k s)) (padded-below 256 8 (drop k s) (below-drop 256 k s h))
+    ∙ bits-padded 8 (drop k s) ∙ ap (padded 64) (bits-drop k s)
+
+-- eight bytes that are there
+pub inside : (s : List ℕ) (k : ℕ) → k + 8 ≤ length s → take (k + 8 - k) (drop k s) ≡ padded 8 (drop k s)
+inside s k h =
+    let n : k + 8 - k ≡ 8 = omega arith in
+    rw n (sym (padded-there 8 (drop k s) (omega (arith, length-drop k s))))
+
+-- bytes put over zeros, as many as are there from an offset on
+abbrev pub over_zeros : List ℕ → List ℕ → ℕ → List ℕ
+over_zeros s put m = put ++ drop (length (take (length s - m) (drop m s))) (replicate 8 0)
+
+pub near_end : (s put : List ℕ) (k m : ℕ) → length s < k + 8 → m ≡ min k (length s) → put ≡ take (length s - m) (drop m s)
+    → over_zeros s put m ≡ padded 8 (drop k s)
+near_end s put k m h em ep =
+    let l = drop k s in
+    let there : take (length s - m) (drop m s) ≡ l =
+    take_all (length s - m) (drop m s) (omega (arith, length-drop m s)) ∙ ap (λ (j : ℕ). drop j s) em ∙ drop_min k s in
+    let few : length l + (8 - length l) ≡ 8 = omega (arith, length-drop k s) in
+    rw (ep, there, drop-replicate {X = ℕ} (length l) 8 0) (sym (padded-whole l (8 - length l)) ∙ ap (λ (n : ℕ). padded n l) few)
 
 -- ---- shifts of a number of so many bits
 pub shl-mod : (w j k : ℕ) → (w * 2 ^ k) % 2 ^ (j + k) ≡ (w % 2 ^ j) * 2 ^ k

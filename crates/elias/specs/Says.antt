@@ -1,6 +1,6 @@
 -- What a codeword's answer says, and the codewords of either code.
-use Rattle.std.specs.Prelude.{ℕ, ◌≡◌, List, Option, Some}
-use Rattle.meaning.specs.Answer.{Answer, given}
+use Rattle.std.specs.Prelude.{ℕ, List}
+use Rattle.meaning.specs.Answer.{Answer}
 use Rattle.meaning.specs.Codes.{Code, code_gamma, code_delta}
 use Rattle.meaning.specs.Elias.{gamma_bits, delta_bits, gamma_word, delta_word}
 use Rattle.elias.specs.declared.word.Form.{Form}
@@ -10,10 +10,6 @@ use Rattle.elias.specs.declared.word.Codeword.{Codeword}
 -- the value v, and how many bits it takes
 abbrev pub codeword_told : Codeword → ℕ × ℕ
 codeword_told w = (w.value, w.size)
-
--- a codeword that r gives is what a gives; where r gives none, nothing is said
-pub record Gives (r : Option Codeword) (a : Answer (ℕ × ℕ)) : Type 0 where
-  pub value : (w : Codeword) → r ≡ Some w → a ≡ given (codeword_told w)
 
 -- v's codeword, how a codeword is read, and the code
 abbrev pub bits_of_word : Form → ℕ → List ℕ

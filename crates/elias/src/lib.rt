@@ -2,7 +2,6 @@
 #![tactic(auto)]
 
 mod input;
-mod inside;
 mod output;
 mod word;
 
@@ -12,10 +11,8 @@ ghost use Rattle.meaning.specs.Limits.{most_bytes};
 ghost use Rattle.meaning.specs.Places.{Source, Wrote, UnitIs, Target, Took};
 ghost use Rattle.elias.specs.Says.{code_with};
 
-use crate::input::{peek, top};
-use crate::inside::quick_word;
-use crate::output::{Pending, finish, push_word};
-use crate::word::word_at;
+use crate::input::{is_inside, peek, top};
+use crate::output::Pending;
 use leaves::{from_bit, taken};
 use meaning::{Bit, Offset, Place, Position, Refusal, Taken, UnitRead};
 pub use word::Form;
@@ -26,7 +23,7 @@ pub fn unit(form: Form, body: &[u8], left: usize, at: Position) -> Result<UnitRe
     ensures { UnitIs ((code_with form).unit body.now left at) result }
 {
     let bit = at.bit;
-    let word = word_at(body, bit, form)?;
+    let word = form.word_at::<false>(body, bit)?;
     let mut numbers = [0u32; 16];
     numbers[0] = (word.value - 1) as u32;
     let index = bit.index + word.size;
@@ -38,8 +35,28 @@ pub fn unit(form: Form, body: &[u8], left: usize, at: Position) -> Result<UnitRe
     })
 }
 
-// Takes codewords from a position on, into work from a place on, and stops at one that would be refused. The compiler makes a loop for each form.
+// Takes codewords from a position on, into work from a place on, and stops at one that would be refused, or where the body's end comes near.
 pub fn take(
+    form: Form,
+    body: &[u8],
+    left: usize,
+    at: Position,
+    work: &mut [u32],
+    from: Place,
+    room: usize,
+) -> Taken
+    requires { Target body.now work.old from.number room }
+    ensures { Took (code_with form) body.now left at room from.number work.old work.new result }
+{
+    if is_inside::<true>(body, at.bit) {
+        return take_in::<true>(form, body, left, at, work, from, room);
+    }
+    take_in::<false>(form, body, left, at, work, from, room)
+}
+
+// The same in one loop: inside, or near the end. Apart from each other they keep what they use in registers; the compiler makes a loop for each form.
+#[inline(never)]
+fn take_in<const INSIDE: bool>(
     form: Form,
     body: &[u8],
     left: usize,
@@ -55,8 +72,12 @@ pub fn take(
     let most = left.min(room);
     let mut index = at.bit.index;
     for i in 0..most {
-        let Some(word) = quick_word(body, Bit { index }, form) else {
-            return taken(at, i, i, 0, from_bit(Bit { index }));
+        let bit = Bit { index };
+        if !is_inside::<INSIDE>(body, bit) {
+            return taken(at, i, i, 0, from_bit(bit));
+        }
+        let Ok(word) = form.word_at::<INSIDE>(body, bit) else {
+            return taken(at, i, i, 0, from_bit(bit));
         };
         work[first + i] = (word.value - 1) as u32;
         index += word.size;
@@ -77,9 +98,9 @@ pub fn write(form: Form, list: &[u32], out: &mut [u8], at: Offset) -> Offset
     for &x in list {
         // v may be 2^32: nothing is added in 32 bits
         let v = u64::from(x) + 1;
-        wait = push_word(out, wait, v, form);
+        wait = wait.push_word(out, v, form);
     }
-    finish(out, wait)
+    wait.finish(out)
 }
 
 // Nothing is left from a position on but spare bits, which are 0.
@@ -87,14 +108,6 @@ pub fn done(body: &[u8], at: Position) -> bool
     requires { length body.now ≤ most_bytes }
     ensures { result ≡ done_elias body.now at }
 {
-    let bit = at.bit;
-    let p = bit.index;
-    let bits = 8 * body.len();
-    if bits <= p {
-        return true;
-    }
-    if 7 < bits - p {
-        return false;
-    }
-    top(peek(body, bit), 7) == 0
+    let left = (8 * body.len()).saturating_sub(at.bit.index);
+    left < 8 && top(peek::<false>(body, at.bit), 7) == 0
 }

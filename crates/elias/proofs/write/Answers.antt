@@ -18,7 +18,7 @@ push_word-wait-requires c =
 pub loop-x-preserved : goal.loop-x-preserved
 loop-x-preserved c =
     let few : get_or c.args.list.now c.loop-x.x-index 0 < number_limit = omega (arith, c.type_inv.list c.loop-x.x-index) in
-    write-turn c.loop-x.invariant c.loop-x-test.true few c.push_word-wait.auto.out (rw c.from-v.ensures at c.push_word-wait.ensures)
+    write-turn c.loop-x.invariant c.loop-x-test.true few (rw c.from-v.ensures at c.push_word-wait.ensures)
 
 -- ---- after the loop
 pub returns : goal.returns

@@ -1,7 +1,7 @@
 -- `push_delta` meets its contract. Assumes nothing.
 use native.Mathlib.Omega.{arith}
 use Rattle.elias.proofs.Writing.{sized, rest-there, rest-small, delta-room, delta-room-2, delta-pushed}
-use Rattle.elias.proofs.output.push_delta.Goals as goal
+use Rattle.elias.proofs.output.Pending.push_delta.Goals as goal
 
 pub push_gamma-next-requires : goal.push_gamma-next-requires
 push_gamma-next-requires c =

@@ -2,7 +2,7 @@
 use native.Mathlib.Omega.{arith}
 use lib.Pow.{pow_pos}
 use Rattle.elias.proofs.Writing.{sized, gamma-room, gamma-room-2, gamma-pushed}
-use Rattle.elias.proofs.output.push_gamma.Goals as goal
+use Rattle.elias.proofs.output.Pending.push_gamma.Goals as goal
 
 pub push-next-requires : goal.push-next-requires
 push-next-requires c =

@@ -1,12 +1,9 @@
 -- `push` meets its contract: a turn of the loop changes nothing of what the output will hold. Assumes nothing.
-use Rattle.elias.proofs.Pushing.{emit-start, emit-turn, emit-end, push-fits}
-use Rattle.elias.proofs.output.push.Goals as goal
+use Rattle.elias.proofs.Pushing.{emit-turn, emit-end, push-fits}
+use Rattle.elias.proofs.output.Pending.push.Goals as goal
 
 pub overflow_add-bits : goal.overflow_add-bits
-overflow_add-bits c = record { fits = push-fits c.args.wait.bits c.requires.1 c.requires.2 }
-
-pub loop-count-init : goal.loop-count-init
-loop-count-init c = emit-start
+overflow_add-bits c = record { fits = push-fits c.args.self.bits c.requires.1 c.requires.2 }
 
 -- ---- a turn
 pub loop-count-preserved : goal.loop-count-preserved

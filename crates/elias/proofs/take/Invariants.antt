@@ -1,6 +1,0 @@
--- `take` meets its contract, by what its loop knows. Assumes nothing.
-use Rattle.elias.proofs.Taking.{Taking}
-use Rattle.elias.proofs.take.Given as goal
-
-abbrev pub invariant-loop-i : goal.invariant-loop-i
-invariant-loop-i l = Taking l.form l.body l.left l.at l.initial.work l.first l.most l.work l.i l.index
