@@ -7,6 +7,7 @@ use std::io;
 use std::io::Read;
 
 // Reads until the buffer is full or the input ends, and returns how many bytes it put at the buffer's start.
+// kept in both programs: what a contract can say of any reader is too little for a public function. A turn goes on by what a read gives.
 fn read_full<R: Read>(input: &mut R, buffer: &mut [u8]) -> io::Result<usize>
     ensures { ReadsAtMost result buffer.new }
 {

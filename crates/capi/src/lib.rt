@@ -1,5 +1,5 @@
 // The C interface, as include/pelluvion.h declares it. Each function calls the proved operation, answers with the refusal's number, 0 where
-// it was accepted, and tells the rest through its last pointers.
+// it was accepted, and tells the rest through its last pointers. kept: numbers and pointers are the C interface.
 #![tactic(auto)]
 
 ghost use Rattle.std.specs.Prelude.{◌≡◌, length};

@@ -28,6 +28,7 @@ pub fn lookup_code(code: u8, body: &[u8], n: usize, place: Place) -> Result<u32,
     let mut numbers = [0u32; 128];
     let start = Place { number: 0 };
     let mut passed: usize = 0;
+    // A turn passes a stretch of units, as long as it is.
     loop {
         let here = goal - passed;
         let room = 128usize.min(here + most);
@@ -56,6 +57,7 @@ pub fn total_code(code: u8, body: &[u8], n: usize, place: Place) -> Result<u64, 
     let start = Place { number: 0 };
     let mut passed: usize = 0;
     let mut s: u64 = 0;
+    // A turn passes a stretch of units.
     loop {
         let here = goal - passed;
         let room = 192usize.min(here + most);
@@ -102,6 +104,7 @@ pub fn firsts_code(
         }
     };
     let mut passed: usize = 0;
+    // A turn passes a stretch of units.
     while passed < k {
         let place = to + passed;
         let room = k - passed;
@@ -156,6 +159,7 @@ pub fn seek_code(
     let start = Place { number: 0 };
     let mut passed: usize = 0;
     let mut done = start;
+    // A turn passes a stretch of units.
     while passed < runs {
         // Each run holds a number at least, so no more lengths are needed than places are left; a unit's are.
         let room = 32usize.min(goal - done.number + 16);

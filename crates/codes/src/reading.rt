@@ -22,6 +22,7 @@ pub fn read_code(
     let mut at = start_at(code, body, n)?;
     let mut i: usize = 0;
     let mut spare: usize = 0;
+    // A turn reads a stretch of units, as long as it is.
     while i < n {
         let place = first + i;
         let left = n - i;

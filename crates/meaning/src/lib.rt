@@ -20,7 +20,7 @@ pub const PLAN_BYTES: usize = 15;
 // Codes are numbered from 1 to this.
 pub const LAST_CODE: u8 = 8;
 
-// The kinds: any numbers, or rising ones, by the edition.
+// The kinds: any numbers, or rising ones, by the edition. kept as numbers: the judge, the writers and a sheet's entry have any byte for a kind.
 pub const ANY: u8 = 0;
 
 pub const RISING: u8 = 1;
