@@ -105,4 +105,3 @@ write_runs-returns t c =
 
 pub write_runs-runs_into-k-requires : goal.write_runs-runs_into-k-requires
 write_runs-runs_into-k-requires t c = (fit-three c.requires, omega (arith, c.requires.few))
-
