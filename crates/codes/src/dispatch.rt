@@ -1,4 +1,5 @@
-// What is done with a code, by its number in document 01. kept as a number and a choice: every number is answered (`code_of`), 7's arm by all others too.
+// What is done with a code, by its number in document 01. kept as a number and a choice: every number is answered (`code_of`), 7's arm by all others too,
+// and over a trait each walk would make this choice.
 ghost use Rattle.std.specs.Prelude.{◌≡◌, ◌≤◌, length};
 ghost use Rattle.meaning.specs.Codes.{code_of};
 ghost use Rattle.meaning.specs.Limits.{most_bytes, unit_places};

@@ -59,7 +59,7 @@ fn worst_direct(n: usize) -> usize
     4 + n.div_ceil(2) + 2 * (n / 128) + 4 * n
 }
 
-// The worst size of n numbers by a code.
+// The worst size of n numbers by a code. kept as a choice by number: every number has a size, and the codes' own crates stand above.
 pub fn worst_code(code: u8, n: usize) -> usize
     requires { n ≤ most_numbers }
     ensures { result ≡ (code_of code).worst n }

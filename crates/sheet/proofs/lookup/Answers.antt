@@ -1,6 +1,5 @@
 -- `lookup` hands the plan's and the body's parts of the column on. Assumes nothing.
 use mathlib.Core.Path.{sym, ◌∙◌}
-use native.Mathlib.Omega.{arith}
 use Rattle.meaning.specs.Stages.{look}
 use Rattle.std.proofs.lemmas.Result.{err_from_is_err_and}
 use Rattle.sheet.proofs.Entered.{of-column, body-short, count-few, sheet-short, opened-here, opened-column}

@@ -1,5 +1,5 @@
 -- The lengths of the numbers so far. Assumes nothing.
-use Rattle.std.proofs.Common.{get_or, arith, refl, ap, ◌+◌, ◌∙◌, sym}
+use Rattle.std.proofs.Common.{get_or, arith, sym}
 use Rattle.words.proofs.DataBytes.{held, data-next, data-empty}
 use Rattle.words.proofs.data_length.Goals as goal
 

@@ -1,5 +1,5 @@
 -- What is still to be put, put from here on, makes the whole; a turn puts one number. Assumes nothing.
-use Rattle.std.proofs.Common.{get_or, arith, length}
+use Rattle.std.proofs.Common.{get_or, arith}
 use Rattle.leaves.proofs.Putting.{left-start, left-long, left-turn, left_end}
 use Rattle.words.proofs.DataBytes.{data-most, data-rest, data-past}
 use Rattle.words.proofs.Puts.{put-few}

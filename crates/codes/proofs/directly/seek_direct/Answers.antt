@@ -1,12 +1,11 @@
 -- The first `number` runs have been passed, length by length. Assumes nothing.
 use mathlib.Core.Bool.{not}
 use Prim.Native.Nat.{ℕ, ◌+◌, ◌-◌}
-use mathlib.Core.Path.{◌≡◌, sym, ap, ap₂, ◌∙◌}
+use mathlib.Core.Path.{◌≡◌, sym, ap, ◌∙◌}
 use native.Mathlib.Nat.{sub-zero}
 use native.Mathlib.Omega.{arith}
 use borrow.Author.Tests.{not-true, not-false}
 use Rattle.meaning.specs.Direct.{look_direct}
-use Rattle.meaning.specs.Says.{says}
 use Rattle.meaning.specs.Stages.{seek}
 use Rattle.stages.proofs.Seeks.{seek-none, seek-stops, seek-breaks, seek-here, seek-later}
 use Rattle.stages.proofs.Unrolls.{fits-so}

@@ -4,11 +4,7 @@ use mathlib.Core.Path.{◌≡◌, sym, ap, ◌∙◌}
 use mathlib.Core.Bool.{not}
 use native.Mathlib.Omega.{arith}
 use borrow.Author.Tests.{lt-leb, le-leb, not-true, not-false}
-use Rattle.meaning.specs.Answer.{given, refused, need}
-use Rattle.meaning.specs.Direct.{parts_fit}
 use Rattle.meaning.specs.Groups.{group_count}
-use Rattle.meaning.specs.Limits.{cut_short}
-use Rattle.meaning.specs.Positions.{at_bit}
 use Rattle.codes.proofs.Numbered.{code-4, code-8, start-other}
 use Rattle.codes.proofs.dispatch.start_at.Goals as goal
 

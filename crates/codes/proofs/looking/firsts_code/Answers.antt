@@ -1,8 +1,6 @@
 -- The numbers at the first `passed` places stand in work. Assumes nothing.
-use Prim.Native.Nat.{ℕ}
-use mathlib.Core.Path.{◌≡◌, refl, sym, ap, ◌∙◌}
+use mathlib.Core.Path.{◌≡◌, refl, sym, ◌∙◌}
 use native.Mathlib.Omega.{arith}
-use Rattle.meaning.specs.Answer.{refused}
 use Rattle.codes.proofs.Lookings.{looking-start, start-refuses, refuses, looking-on}
 use Rattle.codes.proofs.Lookings.{those, laid_none, laid-went, firsts-stop, firsts-all, firsts_same}
 use Rattle.codes.proofs.Numbered.{way-units, look-eight}

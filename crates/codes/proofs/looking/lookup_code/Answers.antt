@@ -3,7 +3,7 @@ use borrow.Author.Rules.{rules}
 use Prim.Native.Nat.{ℕ}
 use mathlib.Core.Path.{sym, ap, ◌∙◌}
 use native.Mathlib.Omega.{arith}
-use Rattle.meaning.specs.Answer.{Answer, refused}
+use Rattle.meaning.specs.Answer.{Answer}
 use Rattle.std.proofs.lemmas.Result.{err_from_is_err_and}
 use Rattle.codes.proofs.Lookings.{looking-start, start-refuses, refuses, passes, looking-on, found}
 use Rattle.codes.proofs.Numbered.{way-units, look-eight}

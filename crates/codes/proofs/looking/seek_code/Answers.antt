@@ -3,7 +3,7 @@ use borrow.Author.Rules.{rules}
 use Prim.Native.Nat.{ℕ}
 use mathlib.Core.Path.{sym, ap, ◌∙◌}
 use native.Mathlib.Omega.{arith}
-use Rattle.meaning.specs.Answer.{Answer, refused}
+use Rattle.meaning.specs.Answer.{Answer}
 use Rattle.meaning.specs.Codes.{code_of, look_code}
 use Rattle.meaning.specs.Stages.{seek}
 use Rattle.std.proofs.lemmas.Result.{err_from_is_err_and}

@@ -4,7 +4,7 @@ use Prim.Native.Nat.{ℕ, ◌+◌, ◌-◌}
 use mathlib.Core.Path.{sym, ap, ◌∙◌}
 use native.Mathlib.Omega.{arith}
 use lib.ListN.{length-take}
-use Rattle.meaning.specs.Answer.{Answer, given, refused}
+use Rattle.meaning.specs.Answer.{Answer, given}
 use Rattle.meaning.specs.Codes.{code_of, look_code}
 use Rattle.std.proofs.lemmas.Result.{err_from_is_err_and}
 use Rattle.codes.specs.Firsts.{total}

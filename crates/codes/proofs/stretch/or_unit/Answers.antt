@@ -1,10 +1,8 @@
 -- What was taken, or the unit that was read. Assumes nothing.
-use Prim.Native.Nat.{ℕ}
-use mathlib.Core.Path.{◌≡◌, sym, ap, ◌∙◌}
+use mathlib.Core.Path.{◌≡◌}
 use native.Mathlib.Omega.{arith}
 use lib.ListN.{length, length-take}
 use Rattle.std.proofs.lemmas.Result.{err_from_is_err_and}
-use Rattle.meaning.specs.Answer.{refused}
 use Rattle.meaning.specs.Limits.{unit_places}
 use Rattle.codes.proofs.Numbered.{laws}
 use Rattle.codes.proofs.Stretches.{passed-taken, kept-none, passed-one, unit-refused}

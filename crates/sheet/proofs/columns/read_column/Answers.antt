@@ -2,7 +2,7 @@
 use mathlib.Core.Path.{sym, ◌∙◌}
 use Rattle.std.proofs.lemmas.Result.{err_from_is_err_and}
 use Rattle.sheet.proofs.Entered.{body-short}
-use Rattle.sheet.proofs.ReadColumns.{column-stop, column-room, column-kept, column-other}
+use Rattle.sheet.proofs.ReadColumns.{column-stop, column-kept, column-other}
 use Rattle.sheet.proofs.columns.read_column.Goals as goal
 
 pub plan_of-plan-requires : goal.plan_of-plan-requires
