@@ -1,10 +1,12 @@
--- The decimal digits of a number: the highest are those of its tenth, and there are no more than a power of ten says. Assumes nothing.
+-- The decimal digits of a number: they are those that the library prints, and there are no more than a power of ten says. Assumes nothing.
 use Prim.Native.Nat.{ℕ, zero, suc, ◌+◌, ◌/◌, ◌%◌, ◌^◌, ◌≤◌, ◌<◌}
-use mathlib.Core.Path.{◌≡◌, refl, ap, ◌∙◌}
+use mathlib.Core.Path.{◌≡◌, refl, sym, ap, ◌∙◌}
 use mathlib.Core.List.{List, [], ◌∷◌, ◌++◌}
 use native.Mathlib.Nat.{pow-succ'}
 use native.Mathlib.Omega.{arith}
 use lib.ListN.{length, length-append}
+use Rattle.std.specs.Fmt.{decimal}
+use Rattle.std.proofs.lemmas.Fmt.{decimal_by_steps}
 use Rattle.meaning.specs.Texts.{decimal_in, digits}
 
 -- more digits than a number has leave it as it is
@@ -20,7 +22,7 @@ enough (suc k) (suc j) (suc y) h i =
     ap (λ (l : List ℕ). l ++ ((48 + suc y % 10) ∷ [])) (enough k j (suc y / 10) (omega arith) (omega arith))
 
 -- ---- one digit, and the lowest after the others
-pub digits-one : (x : ℕ) → x < 10 → digits x ≡ (48 + x) ∷ []
+digits-one : (x : ℕ) → x < 10 → digits x ≡ (48 + x) ∷ []
 unfolding digits decimal_in
 digits-one zero h = refl
 digits-one (suc y) h =
@@ -28,7 +30,7 @@ digits-one (suc y) h =
     let r : suc y % 10 ≡ suc y = omega arith in
     rw (q, r, enough y 0 0 (omega arith) (omega arith))
 
-pub digits_more : (x : ℕ) → 10 ≤ x → digits x ≡ digits (x / 10) ++ ((48 + x % 10) ∷ [])
+digits_more : (x : ℕ) → 10 ≤ x → digits x ≡ digits (x / 10) ++ ((48 + x % 10) ∷ [])
 unfolding digits decimal_in
 digits_more zero h = absurd (omega arith)
 digits_more (suc y) h =
@@ -37,6 +39,11 @@ digits_more (suc y) h =
     all : (z : ℕ) → 0 < z → decimal_in z z ≡ digits z
     all zero h = absurd (omega arith)
     all (suc z) h = refl
+
+pub digits-decimal : (x : ℕ) → x < 2 ^ 64 → decimal x ≡ digits x
+digits-decimal =
+    decimal_by_steps (λ n l. l ≡ digits n) (λ n h. sym (digits-one n h))
+    (λ n l h e. ap (λ (m : List ℕ). m ++ ((48 + n % 10) ∷ [])) e ∙ sym (digits_more n h))
 
 -- ---- how many there are
 few : (k j x : ℕ) → x < 10 ^ k → length (decimal_in j x) ≤ k

@@ -20,6 +20,7 @@ use Rattle.table.proofs.Sounds.{IsSheet, sound-sheet}
 use Rattle.sheet.proofs.Checks.{check-passed}
 use Rattle.texts.specs.Listing.{Passing, Listable}
 use Rattle.texts.specs.Written.{Puts}
+use Rattle.texts.specs.declared.pieces.Page.{Page}
 use Rattle.texts.proofs.Listings.{counting-next, counting-end}
 use Rattle.leaves.proofs.Putting.{wrote_after, wrote_as}
 use Rattle.texts.proofs.Putting.{widened, Turning, turns_next, turns-end}
@@ -32,20 +33,19 @@ abbrev column_most : ℕ
 column_most = 16793
 
 -- ---- the columns from k on are still to be put; what a turn needs of the sheet, the work and the list
-pub record Listing (sheet work₀ list₀ : List ℕ) (columns at : ℕ) (out₀ work list out : List ℕ) (to k : ℕ) : Type 0 where
+pub record Listing (sheet work₀ list₀ : List ℕ) (columns : ℕ) (p₀ : Page) (work list : List ℕ) (p : Page) (k : ℕ) : Type 0 where
   pub passing : Passing sheet (length work₀) (length list₀)
   pub counted : columns ≡ column_count sheet
   pub works : length work ≡ length work₀
   pub lists : length list ≡ length list₀
-  pub early : at < 2 ^ 58
-  pub turns : Turning columns column_most (counting column_lines 0 (columns_of sheet)) at out₀ (counting column_lines k (drop k (columns_of sheet))) out to k
+  pub early : p₀.at.byte < 2 ^ 58
+  pub turns : Turning columns column_most (counting column_lines 0 (columns_of sheet)) p₀ (counting column_lines k (drop k (columns_of sheet))) p k
 
-module _ {sheet work₀ list₀ : List ℕ} {columns at : ℕ} {out₀ work list out : List ℕ} {to k : ℕ}
-    (l : Listing sheet work₀ list₀ columns at out₀ work list out to k) where
+module _ {sheet work₀ list₀ : List ℕ} {columns : ℕ} {p₀ : Page} {work list : List ℕ} {p : Page} {k : ℕ} (l : Listing sheet work₀ list₀ columns p₀ work list p k) where
   pub listing-few : columns ≤ most_columns
   listing-few = omega (arith, l.counted, (passing-sheet l.passing).few)
 
-  pub listing-room : to < 2 ^ 59
+  pub listing-room : p.at.byte < 2 ^ 59
   listing-room = omega (arith, l.turns.short, l.turns.below, l.early, listing-few)
 
   pub listing-column : k < columns → Listable sheet k (length work) (length list)
@@ -54,10 +54,9 @@ module _ {sheet work₀ list₀ : List ℕ} {columns at : ℕ} {out₀ work list
       let lists = l.lists ∙ l.passing.lists in
       record { passing = record { passes = l.passing.passes; works = works; lists = lists }; exists = omega (arith, l.counted) }
 
-  pub listing-turn : k < columns → {work' list' out' : List ℕ} {to' : Offset} → length work' ≡ length work → length list' ≡ length list
-      → Puts (column_lines k (column_at sheet k)) column_most to out out' to'
-      → Listing sheet work₀ list₀ columns at out₀ work' list' out' to'.byte (k + 1)
-  listing-turn h works lists p =
+  pub listing-turn : k < columns → {work' list' : List ℕ} {q : Page} → length work' ≡ length work → length list' ≡ length list
+      → Puts (column_lines k (column_at sheet k)) column_most p q → Listing sheet work₀ list₀ columns p₀ work' list' q (k + 1)
+  listing-turn h works lists put =
       let next = counting-next column_lines (columns_of sheet) k blank_column (omega (arith, l.counted, column-count sheet)) in
       record {
         passing = l.passing;
@@ -65,10 +64,10 @@ module _ {sheet work₀ list₀ : List ℕ} {columns at : ℕ} {out₀ work list
         works = works ∙ l.works;
         lists = lists ∙ l.lists;
         early = l.early;
-        turns = turns_next l.turns h next p.wrote p.short;
+        turns = turns_next l.turns h next put;
       }
 
-  pub listing-end : columns ≤ k → Puts (counting column_lines 0 (columns_of sheet)) 268688 at out₀ out (record { byte = to })
+  pub listing-end : columns ≤ k → Puts (counting column_lines 0 (columns_of sheet)) 268688 p₀ p
   listing-end h =
       let none = counting-end column_lines (columns_of sheet) k (omega (arith, l.counted, column-count sheet)) in
       widened (turns-end l.turns h none) (omega (arith, listing-few))

@@ -2,12 +2,13 @@
 use Rattle.std.specs.Prelude.{ℕ, ◌+◌, ◌≤◌, ◌≡◌, List, length}
 use Rattle.std.proofs.lemmas.List.Edits.{sets}
 use Rattle.meaning.specs.Places.{Wrote}
-use Rattle.meaning.specs.declared.Offset.{Offset}
+use Rattle.texts.specs.declared.pieces.Page.{Page}
 
--- a part of it, from an offset on
-pub record Puts (bytes : List ℕ) (most at : ℕ) (out out' : List ℕ) (r : Offset) : Type 0 where
-  pub wrote : Wrote bytes at out out' r
-  pub short : r.byte ≤ at + most
+-- a part of it: a page that was p is q, on the same output
+pub record Puts (bytes : List ℕ) (most : ℕ) (p q : Page) : Type 0 where
+  pub wrote : Wrote bytes p.at.byte p.out.now q.out.now q.at
+  pub short : q.at.byte ≤ p.at.byte + most
+  pub same : q.out.ghost_name ≡ p.out.ghost_name
 
 -- the whole: bytes stand at the start of an output, as far as they lie within it, and r says how many there are
 pub record Written (bytes : List ℕ) (most : ℕ) (out out' : List ℕ) (r : ℕ) : Type 0 where

@@ -1,9 +1,9 @@
-// Bytes, numbers in decimal and lines put into an output. Each answers where what it put ends.
+// A page, and the pieces that are printed on it: bytes, words, numbers in decimal and lines.
 ghost use Rattle.std.specs.Prelude.{[], ◌∷◌, ◌+◌, ◌<◌, ◌^◌, length};
-ghost use Rattle.meaning.specs.Places.{Wrote};
 ghost use Rattle.meaning.specs.Texts.{digits, line, line_feed, space};
 ghost use Rattle.texts.specs.Written.{Puts};
 
+use itoa::Buffer;
 use leaves::put;
 use meaning::Offset;
 
@@ -11,83 +11,76 @@ const SPACE: u8 = 32;
 
 const LINE_FEED: u8 = 10;
 
-// The byte of digit 0.
-const ZERO: usize = 48;
-
-// One byte.
-fn put_byte(b: u8, out: &mut [u8], at: Offset) -> Offset
-    requires { at.byte < 2 ^ 63 }
-    ensures { Wrote (b ∷ []) at.byte out.old out.new result }
-{
-    put(out, at, b);
-    let end = at.byte + 1;
-    Offset { byte: end }
+// An output, and where its next byte goes. Past the output's end nothing is put, and the offset still grows.
+// kept: no `fmt::Write`, since std says what a `write!` wrote only where it answers Ok, and says nowhere that it does.
+#[derive(Drop)]
+pub struct Page<'a> {
+    pub out: &'a mut [u8],
+    pub at: Offset,
 }
 
-// What ends a line.
-pub fn put_end(out: &mut [u8], at: Offset) -> Offset
-    requires { at.byte < 2 ^ 63 }
-    ensures { Wrote (line_feed ∷ []) at.byte out.old out.new result }
-{
-    put_byte(LINE_FEED, out, at)
-}
-
-// A word.
-pub fn put_word(word: &[u8], out: &mut [u8], at: Offset) -> Offset
-    requires { at.byte + length word.now < 2 ^ 63 }
-    ensures { Wrote word.now at.byte out.old out.new result }
-{
-    let mut to = at;
-    for &b in word {
-        to = put_byte(b, out, to);
+impl<'a> Page<'a> {
+    // One byte.
+    fn byte(&mut self, b: u8)
+        requires { self.old.at.byte < 2 ^ 63 }
+        ensures { Puts (b ∷ []) 1 self.old self.new }
+    {
+        put(self.out, self.at, b);
+        self.at.byte += 1;
     }
-    to
-}
 
-// A number, highest digit first.
-pub fn put_digits(x: usize, out: &mut [u8], at: Offset) -> Offset
-    requires { at.byte < 2 ^ 62 }
-    ensures { Puts (digits x) 20 at.byte out.old out.new result }
-{
-    if x < 10 {
-        return put_byte((ZERO + x) as u8, out, at);
+    // What ends a line.
+    pub fn end(&mut self)
+        requires { self.old.at.byte < 2 ^ 63 }
+        ensures { Puts (line_feed ∷ []) 1 self.old self.new }
+    {
+        self.byte(LINE_FEED);
     }
-    let high = put_digits(x / 10, out, at);
-    put_byte((ZERO + x % 10) as u8, out, high)
-}
 
-// A further word of a line.
-pub fn put_next(word: &[u8], out: &mut [u8], at: Offset) -> Offset
-    requires { at.byte + length word.now < 2 ^ 62 }
-    ensures { Wrote (space ∷ word.now) at.byte out.old out.new result }
-{
-    let first = put_byte(SPACE, out, at);
-    put_word(word, out, first)
-}
+    // A word.
+    pub fn word(&mut self, word: &[u8])
+        requires { self.old.at.byte + length word.now < 2 ^ 63 }
+        ensures { Puts word.now (length word.now) self.old self.new }
+    {
+        for &b in word {
+            self.byte(b);
+        }
+    }
 
-// A number that is a further word of a line.
-pub fn put_number(x: usize, out: &mut [u8], at: Offset) -> Offset
-    requires { at.byte + 1 < 2 ^ 62 }
-    ensures { Puts (space ∷ digits x) 21 at.byte out.old out.new result }
-{
-    let first = put_byte(SPACE, out, at);
-    put_digits(x, out, first)
-}
+    // A number, highest digit first.
+    pub fn digits(&mut self, x: usize)
+        requires { self.old.at.byte < 2 ^ 62 }
+        ensures { Puts (digits x) 20 self.old self.new }
+    {
+        let mut text = Buffer::new();
+        self.word(text.format(x).as_bytes());
+    }
 
-// A byte's number that is a further word of a line.
-pub fn put_small(x: u8, out: &mut [u8], at: Offset) -> Offset
-    requires { at.byte + 1 < 2 ^ 62 }
-    ensures { Puts (space ∷ digits x) 21 at.byte out.old out.new result }
-{
-    put_number(usize::from(x), out, at)
-}
+    // A further word of a line.
+    pub fn next(&mut self, word: &[u8])
+        requires { self.old.at.byte + length word.now < 2 ^ 62 }
+        ensures { Puts (space ∷ word.now) (1 + length word.now) self.old self.new }
+    {
+        self.byte(SPACE);
+        self.word(word);
+    }
 
-// A line of a word and a number.
-pub fn put_line(word: &[u8], x: usize, out: &mut [u8], at: Offset) -> Offset
-    requires { at.byte + length word.now + 32 < 2 ^ 62 }
-    ensures { Puts (line word.now (digits x ∷ [])) (length word.now + 22) at.byte out.old out.new result }
-{
-    let first = put_word(word, out, at);
-    let second = put_number(x, out, first);
-    put_end(out, second)
+    // A number that is a further word of a line.
+    pub fn number(&mut self, x: usize)
+        requires { self.old.at.byte + 1 < 2 ^ 62 }
+        ensures { Puts (space ∷ digits x) 21 self.old self.new }
+    {
+        self.byte(SPACE);
+        self.digits(x);
+    }
+
+    // A line of a word and a number.
+    pub fn line(&mut self, word: &[u8], x: usize)
+        requires { self.old.at.byte + length word.now + 32 < 2 ^ 62 }
+        ensures { Puts (line word.now (digits x ∷ [])) (length word.now + 22) self.old self.new }
+    {
+        self.word(word);
+        self.number(x);
+        self.end();
+    }
 }

@@ -1,6 +1,5 @@
 -- The columns that are still to be put, put from here on, make the whole; a turn puts one. Assumes only the laws of the codes.
 use mathlib.Core.Path.{refl}
-use Rattle.leaves.proofs.Putting.{left-long}
 use Rattle.texts.proofs.Putting.{turns-start}
 use Rattle.texts.proofs.Sheets.{passing-sheet, listing-room, listing-column, listing-turn, listing-end}
 use Rattle.texts.proofs.put_columns.Goals as goal
@@ -16,27 +15,24 @@ loop-k-init c =
       works = refl;
       lists = refl;
       early = c.requires.1;
-      turns = turns-start _ _ _ _ _;
+      turns = turns-start _ _ _ _;
     }
 
-pub put_column-to-requires : goal.put_column-to-requires
-put_column-to-requires c =
+pub put_column-requires : goal.put_column-requires
+put_column-requires c =
     let l = c.loop-k.invariant in
     (listing-column l c.loop-k-test.true, listing-room l)
 
 pub loop-k-preserved : goal.loop-k-preserved
 loop-k-preserved c =
-    listing-turn c.loop-k.invariant c.loop-k-test.true c.put_column-to.auto.work c.put_column-to.auto.list
-    c.put_column-to.ensures
+    listing-turn c.loop-k.invariant c.loop-k-test.true c.put_column.auto.work c.put_column.auto.list
+    c.put_column.ensures
 
 pub shape_of-work : goal.shape_of-work
 shape_of-work c = c.loop-k.invariant.works
 
 pub shape_of-list : goal.shape_of-list
 shape_of-list c = c.loop-k.invariant.lists
-
-pub shape_of-out : goal.shape_of-out
-shape_of-out c = left-long c.loop-k.invariant.turns.left
 
 pub returns : goal.returns
 returns c = listing-end c.loop-k.invariant c.loop-k-test.false

@@ -3,4 +3,4 @@ use Rattle.texts.proofs.Sheets.{Listing}
 use Rattle.texts.proofs.put_columns.Given as goal
 
 abbrev pub invariant-loop-k : goal.invariant-loop-k
-invariant-loop-k l = Listing l.sheet l.initial.work l.initial.list l.columns l.initial.to.byte l.initial.out l.work l.list l.out l.to.byte l.k
+invariant-loop-k l = Listing l.sheet l.initial.work l.initial.list l.columns l.initial.page l.work l.list l.page l.k

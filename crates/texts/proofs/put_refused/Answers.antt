@@ -7,10 +7,6 @@ use Rattle.texts.proofs.put_refused.Goals as goal
 pub returns : goal.returns
 unfolding refused_or text
 returns c =
-    let refused = c.put_word-first.ensures in
-    let e = c.put_small-second.ensures in
-    let column = c.put_next-third.ensures in
-    let k = c.put_number-fourth.ensures in
-    let end = c.put_end.ensures in
+    let column = line-next c.next.ensures.wrote (line-next c.number-2.ensures.wrote (line-last c.end.ensures.wrote)) in
     rw (← c.from.ensures)
-    (record { wrote = line_first refused (line-next e.wrote (line-next column (line-next k.wrote (line-last end)))); short = omega arith })
+    (record { wrote = line_first c.word.ensures.wrote (line-next c.number.ensures.wrote column); short = omega arith; same = omega arith })

@@ -11,12 +11,9 @@ column_count-columns-requires c = (passing-sheet c.requires.0).least
 pub returns : goal.returns
 unfolding text
 returns c =
-    let count = c.put_line-first.ensures in
-    let columns = c.put_columns-second.ensures in
-    let word = c.put_word-third.ensures in
-    let end = c.put_end.ensures in
-    let last = line_first word (line-last end) in
+    let last = line_first c.word.ensures.wrote (line-last c.end.ensures.wrote) in
     record {
-      wrote = sheet-lines c.args.sheet.now c.column_count-columns.ensures.0 count.wrote columns.wrote last;
+      wrote = sheet-lines c.args.sheet.now c.column_count-columns.ensures.0 c.line.ensures.wrote c.put_columns.ensures.wrote last;
       short = omega arith;
+      same = omega arith;
     }

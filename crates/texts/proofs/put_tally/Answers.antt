@@ -7,8 +7,5 @@ use Rattle.texts.proofs.put_tally.Goals as goal
 pub returns : goal.returns
 unfolding board_lines text
 returns c =
-    let first = c.put_line-first.ensures in
-    let second = c.put_line-second.ensures in
-    let third = c.put_line-third.ensures in
-    let fourth = c.put_line.ensures in
-    record { wrote = wrote_after first.wrote (wrote_after second.wrote (wrote_after third.wrote fourth.wrote)); short = omega arith }
+    let two = wrote_after c.line-3.ensures.wrote c.line-4.ensures.wrote in
+    record { wrote = wrote_after c.line.ensures.wrote (wrote_after c.line-2.ensures.wrote two); short = omega arith; same = omega arith }

@@ -9,7 +9,5 @@ use Rattle.texts.proofs.columns.put_named.Goals as goal
 pub returns : goal.returns
 unfolding named text
 returns c =
-    let number = c.put_number-second.ensures in
-    let kind = c.put_kind-third.ensures in
-    let after = word_next number.wrote (word_next kind.wrote (word-last c.put_next.ensures)) in
-    record { wrote = wrote_after c.put_word-first.ensures after.put; short = omega arith }
+    let after = word_next c.number.ensures.wrote (word_next c.put_kind.ensures.wrote (word-last c.next.ensures.wrote)) in
+    record { wrote = wrote_after c.word.ensures.wrote after.put; short = omega arith; same = omega arith }

@@ -9,9 +9,7 @@ pub returns : goal.returns
 unfolding number_line
 returns c =
     let a = c.args in
-    let place = c.put_digits-first.ensures.wrote in
-    let number = c.put_number-second.ensures.wrote in
-    let end = c.put_end.ensures in
+    let rest = line-next c.number.ensures.wrote (line-last c.end.ensures.wrote) in
     let few = digits-few 4 a.place (omega arith) (omega (arith, c.requires)) in
     let few₂ = digits-few 10 a.x (omega arith) (omega arith) in
-    record { wrote = line_first place (line-next number (line-last end)); short = omega arith }
+    record { wrote = line_first c.digits.ensures.wrote rest; short = omega arith; same = omega arith }

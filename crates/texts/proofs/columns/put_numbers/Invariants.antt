@@ -6,4 +6,4 @@ use Rattle.texts.proofs.columns.put_numbers.Given as goal
 
 abbrev pub invariant-loop-i : goal.invariant-loop-i
 invariant-loop-i l =
-    Turning (length l.list) 16 (counting number_line 0 l.list) l.initial.to.byte l.initial.out (counting number_line l.i (drop l.i l.list)) l.out l.to.byte l.i
+    Turning (length l.list) 16 (counting number_line 0 l.list) l.initial.page (counting number_line l.i (drop l.i l.list)) l.page l.i

@@ -30,4 +30,4 @@ returns c =
     let size : c.plan_end-end.result.byte ≡ plan_size (plan_of plan) = omega (arith, c.plan_end-end.ensures) in
     let few = length-take c.plan_end-end.result.byte plan in
     let is = ap (λ (n : ℕ). words (map digits (take n plan))) size in
-    record { wrote = wrote_as is c.put_smalls.ensures.wrote; short = omega (arith, c.put_smalls.ensures.short, few, long) }
+    record { wrote = wrote_as is c.put_smalls.ensures.wrote; short = omega (arith, c.put_smalls.ensures.short, few, long); same = c.put_smalls.ensures.same }

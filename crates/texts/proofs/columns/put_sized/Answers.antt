@@ -8,10 +8,6 @@ use Rattle.texts.proofs.columns.put_sized.Goals as goal
 pub returns : goal.returns
 unfolding sized text
 returns c =
-    let count = c.put_next-first.ensures in
-    let n = c.put_number-second.ensures in
-    let bytes = c.put_next-third.ensures in
-    let size = c.put_number-fourth.ensures in
-    let end = c.put_end.ensures in
-    let all = line-next count (line-next n.wrote (line-next bytes (line-next size.wrote (line-last end)))) in
-    record { wrote = all.put; short = omega arith }
+    let size = line-next c.next-2.ensures.wrote (line-next c.number-2.ensures.wrote (line-last c.end.ensures.wrote)) in
+    let all = line-next c.next.ensures.wrote (line-next c.number.ensures.wrote size) in
+    record { wrote = all.put; short = omega arith; same = omega arith }

@@ -5,27 +5,22 @@ use lib.ListN.{length}
 use Rattle.meaning.specs.Texts.{digits}
 use Rattle.texts.specs.Listing.{words}
 use Rattle.texts.proofs.Listings.{smalls-next, smalls-end}
-use Rattle.leaves.proofs.Putting.{left-long}
 use Rattle.texts.proofs.Putting.{turns-start, turns_next, turns-end}
 use Rattle.texts.proofs.columns.put_smalls.Goals as goal
 
 pub loop-b-init : goal.loop-b-init
 loop-b-init c =
-    let a = c.args in
-    turns-start (length a.bytes.now) 21 (words (map digits a.bytes.now)) a.at.byte a.out.now
+    let bytes = c.args.bytes.now in
+    turns-start (length bytes) 21 (words (map digits bytes)) c.args.page.now
 
-pub put_small-to-requires : goal.put_small-to-requires
-put_small-to-requires c = omega (arith, c.loop-b.invariant.short)
+pub number-requires : goal.number-requires
+number-requires c = omega (arith, c.loop-b.invariant.short)
 
 pub loop-b-preserved : goal.loop-b-preserved
 loop-b-preserved c =
     let l = c.loop-b in
     let more = c.loop-b-test.true in
-    let next = smalls-next c.args.bytes.now l.b-index more in
-    turns_next l.invariant more next c.put_small-to.ensures.wrote c.put_small-to.ensures.short
-
-pub shape_of-out : goal.shape_of-out
-shape_of-out c = left-long c.loop-b.invariant.left
+    turns_next l.invariant more (smalls-next c.args.bytes.now l.b-index more) c.number.ensures
 
 pub returns : goal.returns
 returns c =

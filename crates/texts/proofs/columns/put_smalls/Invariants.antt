@@ -8,5 +8,5 @@ use Rattle.texts.proofs.columns.put_smalls.Given as goal
 
 abbrev pub invariant-loop-b : goal.invariant-loop-b
 invariant-loop-b l =
-    Turning (length l.bytes) 21 (words (map digits l.bytes)) l.initial.to.byte l.initial.out
-    (words (map digits (drop l.b-index l.bytes))) l.out l.to.byte l.b-index
+    Turning (length l.bytes) 21 (words (map digits l.bytes)) l.initial.page
+    (words (map digits (drop l.b-index l.bytes))) l.page l.b-index
