@@ -103,7 +103,11 @@ fn delta_at<const INSIDE: bool>(body: &[u8], at: Bit) -> Result<Codeword, Refusa
 impl Form {
     // The codeword at a bit, which may lie past the end.
     #[inline(always)]
-    pub fn word_at<const INSIDE: bool>(self, body: &[u8], at: Bit) -> Result<Codeword, Refusal>
+    pub(crate) fn word_at<const INSIDE: bool>(
+        self,
+        body: &[u8],
+        at: Bit,
+    ) -> Result<Codeword, Refusal>
         requires { (length body.now ≤ most_bytes) × (Ahead INSIDE 12 body.now at.index) }
         ensures { says_by codeword_told result ≡ word_of self (drop at.index (bits_of body.now)) }
     {

@@ -22,7 +22,7 @@ pub enum Form {
 
 impl Form {
     // How many numbers a full group has.
-    pub fn most(self) -> usize
+    pub(crate) fn most(self) -> usize
         ensures { (result ≡ (layout_of self).group.most) × (result ≤ unit_places) }
     {
         match self {
@@ -57,7 +57,7 @@ impl Form {
     }
 
     // A group's fields as this form has them: in a batch each is what is left of 3.
-    pub fn fields(self, laid: Fielded) -> usize
+    pub(crate) fn fields(self, laid: Fielded) -> usize
         requires { laid.fields < laid.scale }
         ensures { result ≡ fields_by self laid.fields laid.scale }
     {
@@ -68,7 +68,7 @@ impl Form {
     }
 
     // Where the first group of a list is written, which has so many control bytes in all, when the list is written from an offset on.
-    pub fn first(self, at: Offset, bytes: usize) -> Position
+    pub(crate) fn first(self, at: Offset, bytes: usize) -> Position
         requires { at.byte + bytes < 2 ^ 64 }
         ensures { result ≡ (layout_of self).first bytes at.byte }
     {
@@ -86,7 +86,7 @@ impl Form {
     }
 
     // What is used of a position: all else is 0.
-    pub fn used(self, at: Position) -> Position
+    pub(crate) fn used(self, at: Position) -> Position
         ensures { result ≡ used self at }
     {
         match self {
@@ -100,7 +100,7 @@ impl Form {
     }
 
     // Whether the group of one control byte at a position stands before its data, of which 16 bytes are there.
-    pub fn stands(self, len: usize, at: Position) -> bool
+    pub(crate) fn stands(self, len: usize, at: Position) -> bool
         ensures { IsTrue result
             ↔ ((at.head.byte ≤ (layout_of self).from 1 at) × ((layout_of self).from 1 at + 16 ≤ len)) }
     {
@@ -113,7 +113,7 @@ impl Form {
     }
 
     // Where the data of the group at a position begins, which has so many control bytes.
-    pub fn data(self, at: Position, bytes: usize) -> Offset
+    pub(crate) fn data(self, at: Position, bytes: usize) -> Offset
         requires { at.head.byte + bytes < 2 ^ 64 }
         ensures { result.byte ≡ (layout_of self).from bytes at }
     {
@@ -126,7 +126,7 @@ impl Form {
     }
 
     // Where the next group is, when the data of the one at a position ends at an offset.
-    pub fn next(self, at: Position, bytes: usize, end: Offset) -> Position
+    pub(crate) fn next(self, at: Position, bytes: usize, end: Offset) -> Position
         requires { at.head.byte + bytes < 2 ^ 64 }
         ensures { result ≡ (layout_of self).next bytes at end.byte }
     {

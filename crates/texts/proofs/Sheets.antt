@@ -41,7 +41,8 @@ pub record Listing (sheet work₀ list₀ : List ℕ) (columns : ℕ) (p₀ : Pa
   pub early : p₀.at.byte < 2 ^ 58
   pub turns : Turning columns column_most (counting column_lines 0 (columns_of sheet)) p₀ (counting column_lines k (drop k (columns_of sheet))) p k
 
-module _ {sheet work₀ list₀ : List ℕ} {columns : ℕ} {p₀ : Page} {work list : List ℕ} {p : Page} {k : ℕ} (l : Listing sheet work₀ list₀ columns p₀ work list p k) where
+module _ {sheet work₀ list₀ work list : List ℕ} {columns k : ℕ} {p₀ p : Page}
+    (l : Listing sheet work₀ list₀ columns p₀ work list p k) where
   pub listing-few : columns ≤ most_columns
   listing-few = omega (arith, l.counted, (passing-sheet l.passing).few)
 
