@@ -15,7 +15,7 @@ ghost use Rattle.meaning.specs.Places.{Target, Took, UnitIs};
 use bits::words_of::ones_in;
 pub use input::parts_fit;
 use input::{Parts, data_at};
-use leaves::{from_bit, taken};
+use leaves::taken;
 pub use looking::lookup;
 use meaning::{Offset, Place, Position, Refusal, Taken, UnitRead};
 pub use output::write;
@@ -29,7 +29,7 @@ pub fn unit(body: &[u8], left: usize, at: Position) -> Result<UnitRead, Refusal>
     let mut numbers = [0u32; 16];
     numbers[0] = read.number;
     Ok(UnitRead {
-        next: from_bit(read.end),
+        next: Position::from(read.end),
         count: 1,
         numbers,
     })
@@ -57,12 +57,12 @@ pub fn take(
     let mut to = begun.next.bit;
     for i in begun.count..most {
         let Ok(next) = parts.next_number(to) else {
-            return taken(at, i, i, 0, from_bit(to));
+            return taken(at, i, i, 0, Position::from(to));
         };
         work[first + i] = next.number;
         to = next.end;
     }
-    taken(at, most, most, 0, from_bit(to))
+    taken(at, most, most, 0, Position::from(to))
 }
 
 impl Parts<'_> {

@@ -7,7 +7,7 @@ ghost use Rattle.meaning.specs.Places.{Target};
 ghost use Rattle.direct.specs.Parts.{Begun};
 
 use crate::input::{Parts, data_at};
-use leaves::{from_bit, taken};
+use leaves::taken;
 use meaning::{Bit, Offset, Place, Position, Taken};
 use words::{number_at, take_eight, word_at};
 
@@ -52,7 +52,7 @@ impl Parts<'_> {
         let mut n: usize = 0;
         while n + 8 <= limit {
             if self.body[4 + to / 8] != 255 {
-                return taken(at, n, n, 0, from_bit(Bit { index: to }));
+                return taken(at, n, n, 0, Position::from(Bit { index: to }));
             }
             let byte = data + to;
             let number = first + n;
@@ -60,7 +60,7 @@ impl Parts<'_> {
             n += 8;
             to += 8;
         }
-        taken(at, n, n, 0, from_bit(Bit { index: to }))
+        taken(at, n, n, 0, Position::from(Bit { index: to }))
     }
 
     // Takes plain numbers from a position on into work, from a place on, and at most as many as there is room for.
@@ -86,19 +86,19 @@ impl Parts<'_> {
         for i in ones.count..most {
             let here = Bit { index: to };
             if end <= to {
-                return taken(at, i, i, 0, from_bit(here));
+                return taken(at, i, i, 0, Position::from(here));
             }
             let zeros = self.zeros_near(here);
             if 3 < zeros {
-                return taken(at, i, i, 0, from_bit(here));
+                return taken(at, i, i, 0, Position::from(here));
             }
             let x = word_at(self.body, Offset { byte: data + to }) & largest[zeros];
             if x < smallest[zeros] {
-                return taken(at, i, i, 0, from_bit(here));
+                return taken(at, i, i, 0, Position::from(here));
             }
             work[from.number + i] = x;
             to += zeros + 1;
         }
-        taken(at, most, most, 0, from_bit(Bit { index: to }))
+        taken(at, most, most, 0, Position::from(Bit { index: to }))
     }
 }

@@ -13,7 +13,7 @@ ghost use Rattle.elias.specs.Says.{code_with};
 
 use crate::input::{is_inside, peek, top};
 use crate::output::Pending;
-use leaves::{from_bit, taken};
+use leaves::taken;
 use meaning::{Bit, Offset, Place, Position, Refusal, Taken, UnitRead};
 pub use word::Form;
 
@@ -27,7 +27,7 @@ pub fn unit(form: Form, body: &[u8], left: usize, at: Position) -> Result<UnitRe
     let mut numbers = [0u32; 16];
     numbers[0] = (word.value - 1) as u32;
     let index = bit.index + word.size;
-    let next = from_bit(Bit { index });
+    let next = Position::from(Bit { index });
     Ok(UnitRead {
         next,
         count: 1,
@@ -74,15 +74,15 @@ fn take_in<const INSIDE: bool>(
     for i in 0..most {
         let bit = Bit { index };
         if !is_inside::<INSIDE>(body, bit) {
-            return taken(at, i, i, 0, from_bit(bit));
+            return taken(at, i, i, 0, Position::from(bit));
         }
         let Ok(word) = form.word_at::<INSIDE>(body, bit) else {
-            return taken(at, i, i, 0, from_bit(bit));
+            return taken(at, i, i, 0, Position::from(bit));
         };
         work[first + i] = (word.value - 1) as u32;
         index += word.size;
     }
-    taken(at, most, most, 0, from_bit(Bit { index }))
+    taken(at, most, most, 0, Position::from(Bit { index }))
 }
 
 // Writes the codewords of a list from an offset of an output on.

@@ -10,7 +10,7 @@ ghost use Rattle.g8iu.specs.Blocks.{allowed, Plain};
 
 use crate::putting::put_block;
 use crate::taking::{SIZES, has_block, take_ends};
-use leaves::{from_byte, taken};
+use leaves::taken;
 use meaning::{Offset, Place, Position, Refusal, Taken, UnitRead};
 use words::data_length;
 
@@ -67,7 +67,7 @@ pub fn unit(body: &[u8], left: usize, at: Position) -> Result<UnitRead, Refusal>
         return Err(Refusal::Broken);
     };
     Ok(UnitRead {
-        next: from_byte(Offset { byte: first + 9 }),
+        next: Position::from(Offset { byte: first + 9 }),
         count: end.number,
         numbers,
     })
@@ -126,7 +126,7 @@ pub fn take(
     }
     let count = next.number - first;
     let units = (to - head.byte) / 9;
-    taken(at, count, units, spare, from_byte(Offset { byte: to }))
+    taken(at, count, units, spare, Position::from(Offset { byte: to }))
 }
 
 // What a block of some numbers left spare of its 8 data bytes.

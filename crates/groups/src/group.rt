@@ -9,7 +9,6 @@ ghost use Rattle.groups.specs.Layouts.{code_for, layout_of, used};
 ghost use Rattle.groups.specs.Parts.{fields_by};
 
 use crate::put::Fielded;
-use leaves::from_byte;
 use meaning::{Bit, Offset, Position, Refusal, UnitRead};
 use words::{byte_length, number_at};
 
@@ -82,7 +81,7 @@ impl Form {
                 },
                 bit: Bit { index: 0 },
             },
-            Form::Fours | Form::Batches => from_byte(at),
+            Form::Fours | Form::Batches => Position::from(at),
         }
     }
 
@@ -96,7 +95,7 @@ impl Form {
                 tail: at.tail,
                 bit: Bit { index: 0 },
             },
-            Form::Fours | Form::Batches => from_byte(at.head),
+            Form::Fours | Form::Batches => Position::from(at.head),
         }
     }
 
@@ -139,7 +138,7 @@ impl Form {
                 tail: end,
                 bit: Bit { index: 0 },
             },
-            Form::Fours | Form::Batches => from_byte(end),
+            Form::Fours | Form::Batches => Position::from(end),
         }
     }
 }

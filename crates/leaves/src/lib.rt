@@ -5,9 +5,8 @@ ghost use Rattle.std.specs.Prelude.{◌≡◌, ◌≤◌, ◌+◌, length, set, 
 ghost use Rattle.std.proofs.lemmas.List.Edits.{sets};
 ghost use Rattle.meaning.specs.Limits.{unit_places};
 ghost use Rattle.meaning.specs.Places.{Ends};
-ghost use Rattle.meaning.specs.Positions.{at_byte, at_bit};
 
-use meaning::{Bit, Offset, Place, Position, Taken};
+use meaning::{Offset, Place, Position, Taken};
 
 // A byte is put at an offset of an output; past its end nothing is put.
 pub fn put(out: &mut [u8], at: Offset, b: u8)
@@ -26,28 +25,6 @@ pub fn lay(work: &mut [u32], from: Place, numbers: [u32; 16], k: usize)
 {
     let first = from.number;
     work[first..first + k].copy_from_slice(&numbers[..k]);
-}
-
-// A position that is an offset alone.
-pub fn from_byte(at: Offset) -> Position
-    ensures { result ≡ at_byte at.byte }
-{
-    Position {
-        head: at,
-        tail: Offset { byte: 0 },
-        bit: Bit { index: 0 },
-    }
-}
-
-// A position that is a bit alone.
-pub fn from_bit(bit: Bit) -> Position
-    ensures { result ≡ at_bit bit.index }
-{
-    Position {
-        head: Offset { byte: 0 },
-        tail: Offset { byte: 0 },
-        bit,
-    }
 }
 
 // So many numbers of so many units were taken from a position on, the last left so many bytes spare, and the next unit begins at another position;

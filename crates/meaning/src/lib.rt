@@ -2,6 +2,7 @@
 #![tactic(auto)]
 
 ghost use Rattle.std.specs.Prelude.{◌≡◌};
+ghost use Rattle.meaning.specs.Positions.{at_byte, at_bit};
 ghost use Rattle.meaning.specs.Says.{refusal_number};
 
 use std::error::Error;
@@ -131,6 +132,32 @@ pub struct Position {
     pub head: Offset,
     pub tail: Offset,
     pub bit: Bit,
+}
+
+// A position that is an offset alone.
+impl From<Offset> for Position {
+    ghost from_gives = { λ at p. p ≡ at_byte at.byte };
+
+    fn from(at: Offset) -> Position {
+        Position {
+            head: at,
+            tail: Offset { byte: 0 },
+            bit: Bit { index: 0 },
+        }
+    }
+}
+
+// A position that is a bit alone.
+impl From<Bit> for Position {
+    ghost from_gives = { λ bit p. p ≡ at_bit bit.index };
+
+    fn from(bit: Bit) -> Position {
+        Position {
+            head: Offset { byte: 0 },
+            tail: Offset { byte: 0 },
+            bit,
+        }
+    }
 }
 
 // One unit read: where the next begins, how many numbers this one holds, and these from the array's first place on; the places after them are 0.

@@ -10,7 +10,7 @@ ghost use Rattle.meaning.specs.Says.{says_by};
 ghost use Rattle.meaning.specs.VByte.{sevens, vbyte};
 ghost use Rattle.vbyte.specs.Numbers.{number_told, number_at, later_at, Ones, Byte, Cut};
 
-use leaves::{from_byte, put, taken};
+use leaves::{put, taken};
 use meaning::{Offset, Place, Position, Refusal, Taken, UnitRead};
 
 // One number read, and the offset after it.
@@ -125,7 +125,7 @@ pub fn unit(body: &[u8], left: usize, at: Position) -> Result<UnitRead, Refusal>
     let mut numbers = [0u32; 16];
     numbers[0] = value;
     Ok(UnitRead {
-        next: from_byte(next),
+        next: Position::from(next),
         count: 1,
         numbers,
     })
@@ -195,10 +195,10 @@ pub fn take(
     };
     for i in ones..most {
         let Ok(Number { value, next }) = number_at(body, to) else {
-            return taken(at, i, i, 0, from_byte(to));
+            return taken(at, i, i, 0, Position::from(to));
         };
         work[first + i] = value;
         to = next;
     }
-    taken(at, most, most, 0, from_byte(to))
+    taken(at, most, most, 0, Position::from(to))
 }

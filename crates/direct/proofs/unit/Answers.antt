@@ -17,4 +17,4 @@ returns-in_err-read c =
 
 pub returns : goal.returns
 returns c =
-    rw (c.from_bit.ensures, ← c.in_ok-of.ensures.same) (unit-here _ c.args.left c.args.at c.in_ok-of.field-0.fit _ c.next_number.ensures c.in_ok-read.was)
+    rw (c.from.ensures, ← c.in_ok-of.ensures.same) (unit-here _ c.args.left c.args.at c.in_ok-of.field-0.fit _ c.next_number.ensures c.in_ok-read.was)

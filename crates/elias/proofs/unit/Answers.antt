@@ -24,4 +24,4 @@ pub returns : goal.returns
 returns c =
     let a = c.args in
     let is = unit-given a.form a.body.now a.left a.at (sym c.in_ok-word.ensures) in
-    unit-is _ (rw c.from_bit-next.ensures (sym is)) (omega arith) refl
+    unit-is _ (rw c.from-next.ensures (sym is)) (omega arith) refl

@@ -21,7 +21,7 @@ loop-next-preserved c = going-turn c.loop-next.invariant c.loop-next-test.true c
 pub returns : goal.returns
 returns c =
     let so = c.loop-next.invariant in
-    let end = rw c.from_byte.ensures at c.taken.ensures in
+    let end = rw c.from.ensures at c.taken.ensures in
     elim c.loop-next-test.branch [
       | else-loop-next-test w ↦ rw w.work-is (going_end so end)
       | then-loop-next-test+in_default w ↦ rw w.work-is (going_end so end)

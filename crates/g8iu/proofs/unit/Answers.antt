@@ -25,4 +25,4 @@ returns-in_default c =
 pub returns : goal.returns
 returns c =
     let so = standing c.args.at c.if-not-has_block.ensures (c.type_inv.body _).fits c.if-not-is_allowed.ensures in
-    unit-next so c.take_ends.ensures c.in-Some.is c.from_byte.ensures
+    unit-next so c.take_ends.ensures c.in-Some.is c.from.ensures

@@ -12,4 +12,4 @@ returns-in_err-value c =
 pub returns : goal.returns
 returns c =
     let a = c.args in
-    unit-given a.body.now a.left a.at _ c.number_at.ensures c.in_ok-value.was c.from_byte.ensures
+    unit-given a.body.now a.left a.at _ c.number_at.ensures c.in_ok-value.was c.from.ensures
