@@ -15,16 +15,16 @@ use Rattle.meaning.specs.Bytes.{number_of, word_at}
 use Rattle.meaning.specs.Codes.{code_direct}
 use Rattle.meaning.specs.DataBytes.{byte_length}
 use Rattle.meaning.specs.Direct.{data_at, parts_fit, flags, number_in, unit_direct}
-use Rattle.meaning.specs.Limits.{cut_short, broken, unit_places}
+use Rattle.meaning.specs.Limits.{cut_short, broken}
 use Rattle.meaning.specs.Places.{Target, Took, Ends, UnitIs}
 use Rattle.meaning.specs.Positions.{at_bit}
 use Rattle.meaning.specs.Says.{says, says_by, refusal_number}
 use Rattle.meaning.specs.declared.Position.{Position}
 use Rattle.meaning.specs.declared.Refusal.{Refusal}
 use Rattle.meaning.specs.declared.Taken.{Taken}
-use Rattle.meaning.specs.declared.UnitRead.{UnitRead}
 use Rattle.meaning.proofs.Answers.{need-refused}
 use Rattle.meaning.proofs.Codes.{spare-always}
+use Rattle.meaning.proofs.UnitAnswers.{is-read, is-refused}
 use Rattle.meaning.proofs.Taking.{Takes, takes-start, takes-next, takes-long, takes-end}
 use Rattle.meaning.proofs.Tests.{by_order}
 use Rattle.direct.specs.Parts.{Fit, next_in, next_told, Begun}
@@ -88,19 +88,10 @@ one_unit-need true (given x) after = refl
 one_unit-need true (refused e) after = refl
 one_unit-need false m after = refl
 
--- an answer, by what it says
-unit_is : (a : Answer (Position × List ℕ)) (u : UnitRead) → a ≡ given (u.next, take u.count u.numbers) → u.count ≤ unit_places
-    → drop u.count u.numbers ≡ replicate (unit_places - u.count) 0 → UnitIs a (Ok u)
-unit_is a u told few clear =
-    record { told = sym told; few = λ v e. let same : u ≡ v = cc in rw same at few; clear = λ v e. let same : u ≡ v = cc in rw same at clear }
-
-unit_none : (a : Answer (Position × List ℕ)) {e : Refusal} → a ≡ refused (refusal_number e) → UnitIs a (Err e)
-unit_none a told = record { told = sym told; few = λ u k. cc; clear = λ u k. cc }
-
 module _ (body : List ℕ) (left : ℕ) (p : Position) where
   pub unit-unfit : {e : Refusal} → parts_fit body ≡ false → refusal_number e ≡ cut_short → UnitIs (unit_direct body left p) (Err e)
   unfolding unit_direct
-  unit-unfit unfit is = unit_none _ (rw (unfit, is))
+  unit-unfit unfit is = is-refused (rw (unfit, is))
 
   unit-is : parts_fit body ≡ true → unit_direct body left p ≡ bind (next_in body p.bit.index) one_unit
   unfolding unit_direct next_in
@@ -117,11 +108,11 @@ module _ (body : List ℕ) (left : ℕ) (p : Position) where
     unit-given e = rw e at unit-told
 
     pub unit-refused : {z : Refusal} → r ≡ Err z → UnitIs (unit_direct body left p) (Err z)
-    unit-refused e = unit_none _ (rw e at unit-told)
+    unit-refused e = is-refused (rw e at unit-told)
 
     pub unit-here : {n : Next} → r ≡ Ok n
         → UnitIs (unit_direct body left p) (Ok (record { next = at_bit n.end.index; count = 1; numbers = n.number ∷ replicate 15 0 }))
-    unit-here {n} e = unit_is _ (record { next = at_bit n.end.index; count = 1; numbers = n.number ∷ replicate 15 0 }) (unit-given e) (omega arith) refl
+    unit-here e = is-read (unit-given e) (omega arith) refl
 
 -- of a position the bit alone matters
 alike : (body : List ℕ) (left : ℕ) (p : Position) → unit_direct body left p ≡ unit_direct body left (at_bit p.bit.index)

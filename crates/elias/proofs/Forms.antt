@@ -3,18 +3,14 @@ use Prim.Native.Nat.{ℕ, ◌+◌, ◌-◌, ◌*◌, ◌≤◌, ◌<◌}
 use mathlib.Core.Path.{◌≡◌, refl, sym, ◌∙◌}
 use mathlib.Core.List.{List, [], ◌∷◌}
 use native.Mathlib.Omega.{arith}
-use lib.ListN.{length, drop, replicate}
-use Rattle.std.specs.Prelude.{Ok, Err}
-use Rattle.meaning.specs.Answer.{Answer, given, refused}
+use lib.ListN.{length, drop}
+use Rattle.meaning.specs.Answer.{given, refused}
 use Rattle.meaning.specs.Bits.{bits_of, pack}
 use Rattle.meaning.specs.Elias.{write_gamma, write_delta, unit_elias}
-use Rattle.meaning.specs.Limits.{cut_short, number_limit, most_bytes, unit_places}
-use Rattle.meaning.specs.Places.{Spare, UnitIs}
+use Rattle.meaning.specs.Limits.{cut_short, number_limit, most_bytes}
+use Rattle.meaning.specs.Places.{Spare}
 use Rattle.meaning.specs.Positions.{at_bit}
-use Rattle.meaning.specs.Says.{refusal_number, unit_told}
 use Rattle.meaning.specs.declared.Position.{Position}
-use Rattle.meaning.specs.declared.Refusal.{Refusal}
-use Rattle.meaning.specs.declared.UnitRead.{UnitRead}
 use Rattle.meaning.proofs.Answers.{not-given}
 use Rattle.meaning.proofs.Bounds.{below-drop}
 use Rattle.meaning.proofs.Codes.{spare-always}
@@ -86,16 +82,3 @@ module _ (f : Form) (body : List ℕ) where
     pub unit-refused : {z : ℕ} → word_of f (drop p.bit.index (bits_of body)) ≡ refused z → (code_with f).unit body left p ≡ refused z
     unfolding unit_elias
     unit-refused e = unit-of f body left p ∙ rw e
-
--- ---- a unit's answer, by what the unit holds
-pub unit-is : (u : UnitRead) {a : Answer (Position × List ℕ)} → given (unit_told u) ≡ a → u.count ≤ unit_places
-    → drop u.count u.numbers ≡ replicate (unit_places - u.count) 0 → UnitIs a (Ok u)
-unit-is u told few clear =
-    record {
-      told = told;
-      few = λ v e. let same : u ≡ v = cc in rw same at few;
-      clear = λ v e. let same : u ≡ v = cc in rw same at clear;
-    }
-
-pub unit-none : (e : Refusal) {a : Answer (Position × List ℕ)} → refused (refusal_number e) ≡ a → UnitIs a (Err e)
-unit-none e told = record { told = told; few = λ u k. cc; clear = λ u k. cc }

@@ -6,7 +6,7 @@ use mathlib.Core.List.{List, [], ◌∷◌, map}
 use native.Mathlib.Nat.{sub-zero}
 use native.Mathlib.Omega.{arith}
 use lib.Count.{ones, count_leading_zeros, count_trailing_zeros, ones-ones}
-use Rattle.std.specs.Prelude.{Option, Some, None, Ok, Err}
+use Rattle.std.specs.Prelude.{Option, Some, None, Ok}
 use lib.Dec.{leb, eqb}
 use lib.ListN.{length, get_or, take, drop, replicate, length-replicate}
 use lib.Seq.{sets, sets-eq, drop-append_seam}
@@ -17,13 +17,11 @@ use Rattle.meaning.specs.G8IU.{block_lengths, block_in, unit_g8iu}
 use Rattle.meaning.specs.Limits.{cut_short, broken, unit_places}
 use Rattle.meaning.specs.Lists.{all, sum}
 use Rattle.meaning.specs.Places.{UnitIs}
-use Rattle.meaning.specs.Says.{refusal_number}
 use Rattle.meaning.specs.Positions.{at_byte}
 use Rattle.meaning.specs.declared.Place.{Place}
 use Rattle.meaning.specs.declared.Position.{Position}
-use Rattle.meaning.specs.declared.Refusal.{Refusal}
-use Rattle.meaning.specs.declared.UnitRead.{UnitRead}
 use Rattle.meaning.proofs.Answers.{need-given}
+use Rattle.meaning.proofs.UnitAnswers.{is-read}
 use Rattle.meaning.proofs.Stores.{part-sets}
 use Rattle.meaning.proofs.Tests.{by_order, both_true}
 use Rattle.words.proofs.DataBytes.{data-length, data-lengths, data-many}
@@ -149,10 +147,6 @@ first_of xs n h =
           ∙ rw z (drop-zeros (length xs) n),
     )
 
-pub unit-refused : (body : List ℕ) (left : ℕ) (p : Position) {z : Refusal} → unit_g8iu body left p ≡ refused (refusal_number z)
-    → UnitIs (unit_g8iu body left p) (Err z)
-unit-refused body left p e = record { told = sym e; few = λ u q. absurd (cc q); clear = λ u q. absurd (cc q) }
-
 -- a block stands at the position, and its control byte is allowed
 pub record Standing (body : List ℕ) (left : ℕ) (p : Position) : Type 0 where
   pub inside : p.head.byte + 9 ≤ length body
@@ -181,8 +175,4 @@ module _ {body : List ℕ} {left : ℕ} {p : Position} (so : Standing body left 
         let few = block-few body p.head.byte so.byte xs g in
         let k : q.number ≡ length xs = omega arith in
         let (t, d) = first_of xs unit_places (omega arith) in
-        record {
-          told = rw (there, k, is.here, t) (sym (unit-numbers body left p so.inside so.allows (given xs) g));
-          few = λ u e. let n : q.number ≡ u.count = cc in omega arith;
-          clear = λ u e. let v : ◌≡◌ {A = UnitRead} (record { next = next; count = q.number; numbers = numbers }) u = cc in rw (← v, k, is.here) d;
-        }
+        is-read (rw (there, k, is.here, t) (unit-numbers body left p so.inside so.allows (given xs) g)) (omega arith) (rw (k, is.here) d)

@@ -17,12 +17,12 @@ use Rattle.meaning.specs.Groups.{Grouping, group_count, lengths_in, group_in, gr
 use Rattle.meaning.specs.Limits.{cut_short, broken, most_bytes, unit_places}
 use Rattle.meaning.specs.Lists.{sum}
 use Rattle.meaning.specs.Places.{UnitIs, part}
-use Rattle.meaning.specs.Says.{refusal_number}
 use Rattle.meaning.specs.declared.Position.{Position}
 use Rattle.meaning.specs.declared.UnitRead.{UnitRead}
 use Rattle.meaning.specs.declared.Refusal.{Refusal}
 use Rattle.meaning.specs.declared.Refusal.TheVariants.{CutShort, Broken}
 use Rattle.meaning.proofs.Answers.{not-given, bind-given, bind-cong}
+use Rattle.meaning.proofs.UnitAnswers.{is-read, is-refused}
 use Rattle.meaning.proofs.Tests.{by_order, by-test}
 use Rattle.groups.specs.Layouts.{Layout, size, unit_by, layout_of, code_for}
 use Rattle.groups.specs.declared.group.Form.{Form}
@@ -232,9 +232,6 @@ abbrev pub fields_at : List ℕ → Position → ℕ → ℕ
 fields_at body p k = number_of (part body p.head.byte (group_count k))
 
 module _ (g : Layout) (body : List ℕ) (left : ℕ) (p : Position) where
-  refuses : (e : Refusal) → unit_by g body left p ≡ refused (refusal_number e) → UnitIs (unit_by g body left p) (Err e)
-  refuses e is = record { told = sym is; few = λ u h. cc; clear = λ u h. cc }
-
   -- the control bytes are not there
   pub reads_none : {most k m : ℕ} → most ≡ g.group.most → k ≡ min most left → m ≡ k / 4 + min 1 (k % 4) → length body - p.head.byte < m
       → UnitIs (unit_by g body left p) (Err CutShort)
@@ -242,7 +239,7 @@ module _ (g : Layout) (body : List ℕ) (left : ℕ) (p : Position) where
   reads_none {k = k} full many rounded h =
       let e : min g.group.most left ≡ k = sym (many ∙ ap (λ (n : ℕ). min n left) full) in
       let cut : length (drop p.head.byte body) < (k + 3) / 4 = omega (arith, length-drop p.head.byte body) in
-      refuses CutShort (rw (e, lt-leb ((k + 3) / 4) (length (drop p.head.byte body)) cut) refl)
+      is-refused (rw (e, lt-leb ((k + 3) / 4) (length (drop p.head.byte body)) cut) refl)
 
 -- the control bytes of a group of k numbers are there: c are their fields, and its data begins at an offset
 pub record Begun (g : Layout) (body : List ℕ) (left : ℕ) (p : Position) (k c from : ℕ) : Type 0 where
@@ -278,7 +275,7 @@ module _ {g : Layout} {body : List ℕ} {left : ℕ} {p : Position} where
 
   -- but its data is not there
   pub reads-cut : {k c from : ℕ} → Begun g body left p k c from → length body - from < data_size g.group k c → UnitIs (unit_by g body left p) (Err CutShort)
-  reads-cut {k} {c} {from} b h = refuses g body left p CutShort (unit-begun b ∙ rw (group-cut g.group body k c from h) refl)
+  reads-cut {k} {c} {from} b h = is-refused (unit-begun b ∙ rw (group-cut g.group body k c from h) refl)
 
 -- the loop that reads the group at p, whose data is there, has read i of its k numbers, which stand in the array
 pub record Reads (g : Layout) (body : List ℕ) (left : ℕ) (p : Position) (k i control to : ℕ) (numbers : List ℕ) : Type 0 where
@@ -310,7 +307,7 @@ reads-start {g} {body} {p = p} {k} b short room there =
 module _ {g : Layout} {body : List ℕ} {left : ℕ} {p : Position} where
   module _ {k i control to : ℕ} {numbers : List ℕ} (t : Reads g body left p k i control to numbers) where
     group-broken : group_from g.group body k (fields_at body p k) (g.from (group_count k) p) ≡ refused broken → UnitIs (unit_by g body left p) (Err Broken)
-    group-broken e = refuses g body left p Broken (unit-begun t.begun ∙ rw e refl)
+    group-broken e = is-refused (unit-begun t.begun ∙ rw e refl)
 
     more : i < k → So g.group body k (fields_at body p k) (g.from (group_count k) p) (suc (k - suc i)) control to t.done
     more h = let m : k - i ≡ suc (k - suc i) = omega arith in rw m at t.so
@@ -366,14 +363,7 @@ module _ {g : Layout} {body : List ℕ} {left : ℕ} {p : Position} where
           let many : length t.done ≡ k = t.counted ∙ sym is in
           let zeros = replicate {A = ℕ} (unit_places - i) 0 in
           let taken : take k numbers ≡ t.done = ap (take k) t.here ∙ take_at t.done zeros k many in
-          record {
-            told = rw (unit-begun t.begun, so-end none last, next, em, taken);
-            few = λ u e. let here : k ≡ u.count = cc in rw (← here) t.room;
-            clear = λ u e.
-                let n : k ≡ u.count = cc in
-                let here : numbers ≡ u.numbers = cc in
-                rw (← n, ← here) (ap (drop k) t.here ∙ drop_at t.done zeros k many ∙ rw is);
-          }
+          is-read (rw (unit-begun t.begun, so-end none last, next, em, taken)) t.room (ap (drop k) t.here ∙ drop_at t.done zeros k many ∙ rw is)
 
 -- a form's units are those of its layout
 pub unit-for : (form : Form) (body : List ℕ) (left : ℕ) (p : Position) → (code_for form).unit body left p ≡ unit_by (layout_of form) body left p

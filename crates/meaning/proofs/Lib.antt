@@ -6,6 +6,7 @@ pub mod Every
 pub mod Stores
 pub mod Ranks
 pub mod Same
+pub mod UnitAnswers
 pub mod Units
 pub mod Loops
 pub mod Lasting

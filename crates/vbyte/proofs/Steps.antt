@@ -1,6 +1,6 @@
 -- Reading one number byte by byte, on plain values: what each test of `number_at`, `from_second` and `from_fourth` says of the definitions. Assumes nothing.
 use Prim.Native.Nat.{ℕ, suc, ◌+◌, ◌-◌, ◌*◌, ◌≤◌, ◌<◌}
-use mathlib.Core.Path.{◌≡◌, refl, sym, ap, ap₂, ◌∙◌}
+use mathlib.Core.Path.{◌≡◌, refl, ap, ap₂, ◌∙◌}
 use mathlib.Core.Bool.{not}
 use mathlib.Core.List.{List, [], ◌∷◌}
 use native.Mathlib.Nat.{add_assoc, mul-add, mul_assoc}
@@ -20,7 +20,7 @@ use Rattle.meaning.specs.VByte.{later_in, vbyte_in, unit_vbyte}
 use Rattle.meaning.specs.Says.{says_by}
 use Rattle.meaning.specs.declared.Position.{Position}
 use Rattle.meaning.specs.declared.Refusal.{Refusal}
-use Rattle.meaning.specs.declared.UnitRead.{UnitRead}
+use Rattle.meaning.proofs.UnitAnswers.{is-read, is-refused}
 use Rattle.meaning.proofs.Tests.{by-test}
 use Rattle.vbyte.specs.Numbers.{number_told, number_at, later_at, Byte, Cut}
 use Rattle.vbyte.specs.declared.Number.{Number}
@@ -133,12 +133,7 @@ module _ (body : List ℕ) (left : ℕ) (p : Position) (r : Result Number Refusa
 
   pub unit-given : {t : Number} → r ≡ Ok t → {next : Position} → next ≡ at_byte t.next.byte
       → UnitIs (unit_vbyte body left p) (Ok (record { next = next; count = 1; numbers = t.value ∷ replicate 15 0 }))
-  unit-given {t} e {next} is =
-      record {
-        told = rw is (sym (number-given e));
-        few = λ u q. let n : 1 ≡ u.count = cc in omega arith;
-        clear = λ u q. let v : ◌≡◌ {A = UnitRead} (record { next = next; count = 1; numbers = t.value ∷ replicate 15 0 }) u = cc in rw (← v);
-      }
+  unit-given e is = is-read (rw is (number-given e)) (omega arith) refl
 
   pub unit-refused : {z : Refusal} → r ≡ Err z → UnitIs (unit_vbyte body left p) (Err z)
-  unit-refused e = record { told = sym (rw e at told-unit); few = λ u q. absurd (cc q); clear = λ u q. absurd (cc q) }
+  unit-refused e = is-refused (rw e at told-unit)

@@ -2,7 +2,8 @@
 use mathlib.Core.Path.{refl, sym}
 use native.Mathlib.Omega.{arith}
 use Rattle.std.proofs.lemmas.Result.{err_from_is_err_and}
-use Rattle.elias.proofs.Forms.{found, unit-given, unit-refused, unit-is, unit-none}
+use Rattle.meaning.proofs.UnitAnswers.{is-read, is-refused}
+use Rattle.elias.proofs.Forms.{found, unit-given, unit-refused}
 use Rattle.elias.proofs.unit.Goals as goal
 
 pub overflow_sub-numbers : goal.overflow_sub-numbers
@@ -18,10 +19,9 @@ pub returns-in_err-word : goal.returns-in_err-word
 returns-in_err-word c =
     let a = c.args in
     let p = err_from_is_err_and c.from_residual.result c.from_residual.ensures.1 in
-    rw (p.1, p.2) (unit-none _ (sym (unit-refused a.form a.body.now a.left a.at (sym c.in_err-word.ensures))))
+    rw (p.1, p.2) (is-refused (unit-refused a.form a.body.now a.left a.at (sym c.in_err-word.ensures)))
 
 pub returns : goal.returns
 returns c =
     let a = c.args in
-    let is = unit-given a.form a.body.now a.left a.at (sym c.in_ok-word.ensures) in
-    unit-is _ (rw c.from-next.ensures (sym is)) (omega arith) refl
+    is-read (rw c.from-next.ensures (unit-given a.form a.body.now a.left a.at (sym c.in_ok-word.ensures))) (omega arith) refl

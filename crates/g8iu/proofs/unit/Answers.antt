@@ -1,16 +1,16 @@
 -- `unit` tests the offset and the control byte, then takes the block there into the array (`Standing`). Assumes nothing.
 use Rattle.std.proofs.Common.{sym, leb-true}
-use Rattle.g8iu.proofs.Standing.{standing, unit-short, unit-barred, unit-refused, unit-asks, unit-fault, unit-next}
+use Rattle.meaning.proofs.UnitAnswers.{is-refused}
+use Rattle.g8iu.proofs.Standing.{standing, unit-short, unit-barred, unit-asks, unit-fault, unit-next}
 use Rattle.g8iu.proofs.unit.Goals as goal
 
 pub returns-then-not-has_block : goal.returns-then-not-has_block
-returns-then-not-has_block c = let a = c.args in unit-refused _ a.left a.at (unit-short _ _ _ (sym c.if-not-has_block.ensures))
+returns-then-not-has_block c = is-refused (unit-short _ _ _ (sym c.if-not-has_block.ensures))
 
 pub returns-then-not-is_allowed : goal.returns-then-not-is_allowed
 returns-then-not-is_allowed c =
-    let a = c.args in
     let inside = leb-true _ _ (sym c.if-not-has_block.ensures) in
-    unit-refused _ a.left a.at (unit-barred _ _ _ inside (sym c.if-not-is_allowed.ensures))
+    is-refused (unit-barred _ _ _ inside (sym c.if-not-is_allowed.ensures))
 
 pub take_ends-requires : goal.take_ends-requires
 take_ends-requires c =
@@ -20,7 +20,7 @@ take_ends-requires c =
 pub returns-in_default : goal.returns-in_default
 returns-in_default c =
     let so = standing c.args.at c.if-not-has_block.ensures (c.type_inv.body _).fits c.if-not-is_allowed.ensures in
-    unit-refused _ _ _ (unit-fault so c.take_ends.ensures c.in_default.is)
+    is-refused (unit-fault so c.take_ends.ensures c.in_default.is)
 
 pub returns : goal.returns
 returns c =
