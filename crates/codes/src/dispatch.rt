@@ -9,7 +9,7 @@ ghost use Rattle.codes.specs.Started.{is_direct};
 
 use elias::Form::{Delta, Gamma};
 use groups::Form::{Batches, Fours, Stream};
-use meaning::{Bit, Offset, Place, Position, Refusal, Taken, UnitRead};
+use meaning::{Offset, Place, Position, Refusal, Taken, UnitRead};
 
 // Writes a list to an output from an offset on. Answers where its bytes end.
 pub fn write_code(code: u8, list: &[u32], out: &mut [u8], at: Offset) -> Offset
@@ -74,12 +74,7 @@ pub fn take_units(
 pub fn start_at(code: u8, body: &[u8], n: usize) -> Result<Position, Refusal>
     ensures { says result ≡ (code_of code).start body.now n }
 {
-    let zero = Offset { byte: 0 };
-    let first = Position {
-        head: zero,
-        tail: zero,
-        bit: Bit { index: 0 },
-    };
+    let first = Position::from(Offset { byte: 0 });
     if code == 4 {
         let controls = n / 4 + (n % 4 + 3) / 4;
         if body.len() < controls {

@@ -17,7 +17,7 @@ pub returns-then-body-controls : goal.returns-then-body-controls
 returns-then-body-controls c = rw (code-4 c.args.code c.if-code-eq4.true, ← (count-is c.args.n), lt-leb _ _ c.if-body-controls.true)
 
 pub returns-then-code-eq4 : goal.returns-then-code-eq4
-returns-then-code-eq4 c = rw (code-4 c.args.code c.if-code-eq4.true, ← (count-is c.args.n), le-leb _ _ c.if-body-controls.false)
+returns-then-code-eq4 c = rw (code-4 c.args.code c.if-code-eq4.true, ← (count-is c.args.n), le-leb _ _ c.if-body-controls.false, c.from-first.ensures)
 
 pub returns-then-not-parts_fit : goal.returns-then-not-parts_fit
 returns-then-not-parts_fit c =
@@ -25,7 +25,8 @@ returns-then-not-parts_fit c =
 
 pub returns-else-not-parts_fit : goal.returns-else-not-parts_fit
 returns-else-not-parts_fit c =
-    rw (code-8 c.args.code c.if-code-eq8.true, sym c.parts_fit.ensures ∙ not-false _ (ap not c.if-not-parts_fit.false))
+    rw (code-8 c.args.code c.if-code-eq8.true, sym c.parts_fit.ensures ∙ not-false _ (ap not c.if-not-parts_fit.false), c.from-first.ensures)
 
 pub returns-else-code-eq8 : goal.returns-else-code-eq8
-returns-else-code-eq8 c = sym (start-other c.args.code c.args.body.now c.args.n c.if-code-eq4.false c.if-code-eq8.false)
+returns-else-code-eq8 c =
+    rw c.from-first.ensures (sym (start-other c.args.code c.args.body.now c.args.n c.if-code-eq4.false c.if-code-eq8.false))
