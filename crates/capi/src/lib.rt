@@ -7,17 +7,34 @@ ghost use Rattle.meaning.specs.Answer.{number};
 ghost use Rattle.meaning.specs.Operations.{check as check_of, count_board, look_sheet, read_sheet, write_apart};
 ghost use Rattle.meaning.specs.Plan.{judge as judge_of, worst_size};
 ghost use Rattle.meaning.specs.Rank.{rank as rank_of, select as select_of};
+ghost use Rattle.meaning.specs.Says.{says};
 ghost use Rattle.capi.specs.Told.{Tells, TellsList, Blames, Tallies, Fetches};
 
 use bits::{rank, select};
 use judge::{judge, worst_size};
-use meaning::{Bit, Place};
+use meaning::{Bit, Place, Refusal};
 use sheet::{board, check, lookup, read};
 use table::column_at;
 use writer::write;
 
 // Nothing was refused.
 const ACCEPTED: u32 = 0;
+
+// What was given is told, or 0 beside the refusal's number.
+fn tell(answer: Result<usize, Refusal>, told: &mut usize) -> u32
+    ensures { Tells (says answer) result told.new }
+{
+    match answer {
+        Ok(n) => {
+            *told = n;
+            ACCEPTED
+        }
+        Err(e) => {
+            *told = 0;
+            u32::from(e)
+        }
+    }
+}
 
 // Judges a plan for a kind.
 #[unsafe(no_mangle)]
@@ -35,16 +52,7 @@ pub extern "C" fn pelluvion_judge(kind: u8, plan: &[u8]) -> u32
 pub extern "C" fn pelluvion_worst(plan: &[u8], n: usize, size: &mut usize) -> u32
     ensures { Tells (worst_size plan.now n) result size.new }
 {
-    match worst_size(plan, n) {
-        Ok(most) => {
-            *size = most;
-            ACCEPTED
-        }
-        Err(e) => {
-            *size = 0;
-            u32::from(e)
-        }
-    }
+    tell(worst_size(plan, n), size)
 }
 
 // Writes a sheet of an edition, by orders taken apart, at the start of the output.
@@ -62,16 +70,10 @@ pub extern "C" fn pelluvion_write(
     ensures { TellsList (write_apart edition kinds.now plans.now counts.now joined.now
         (length work.old) (length out.old)) result size.new out.old out.new }
 {
-    match write(edition, kinds, plans, counts, joined, work, out) {
-        Ok(bytes) => {
-            *size = bytes;
-            ACCEPTED
-        }
-        Err(e) => {
-            *size = 0;
-            u32::from(e)
-        }
-    }
+    tell(
+        write(edition, kinds, plans, counts, joined, work, out),
+        size,
+    )
 }
 
 // Checks a whole sheet, and names the column at fault.
@@ -103,16 +105,7 @@ pub extern "C" fn pelluvion_read(
     ensures { TellsList (read_sheet sheet.now column (length work.old) (length out.old)) result count.new
         out.old out.new }
 {
-    match read(sheet, column, work, out) {
-        Ok(n) => {
-            *count = n;
-            ACCEPTED
-        }
-        Err(e) => {
-            *count = 0;
-            u32::from(e)
-        }
-    }
+    tell(read(sheet, column, work, out), count)
 }
 
 // Looks up the number at a place of a column.
@@ -201,16 +194,7 @@ pub extern "C" fn pelluvion_board(
 pub extern "C" fn pelluvion_rank(bytes: &[u8], bit: usize, ones: &mut usize) -> u32
     ensures { Tells (rank_of bytes.now bit) result ones.new }
 {
-    match rank(bytes, Bit { index: bit }) {
-        Ok(n) => {
-            *ones = n;
-            ACCEPTED
-        }
-        Err(e) => {
-            *ones = 0;
-            u32::from(e)
-        }
-    }
+    tell(rank(bytes, Bit { index: bit }), ones)
 }
 
 // The bit of the k-th one of lent bytes, counted from 0.
@@ -218,14 +202,5 @@ pub extern "C" fn pelluvion_rank(bytes: &[u8], bit: usize, ones: &mut usize) -> 
 pub extern "C" fn pelluvion_select(bytes: &[u8], k: usize, bit: &mut usize) -> u32
     ensures { Tells (select_of bytes.now k) result bit.new }
 {
-    match select(bytes, k) {
-        Ok(found) => {
-            *bit = found.index;
-            ACCEPTED
-        }
-        Err(e) => {
-            *bit = 0;
-            u32::from(e)
-        }
-    }
+    tell(select(bytes, k).map(|found| found.index), bit)
 }
