@@ -14,10 +14,12 @@ unfolding group_count
 count-is n e = omega (arith, e)
 
 pub returns-then-body-controls : goal.returns-then-body-controls
-returns-then-body-controls c = rw (code-4 c.args.code c.if-code-eq4.true, ← (count-is c.args.n c.div_ceil-controls.ensures), lt-leb _ _ c.if-body-controls.true)
+returns-then-body-controls c =
+    rw (code-4 c.args.code c.if-code-eq4.true, ← (count-is c.args.n c.div_ceil-controls.ensures), lt-leb _ _ c.if-body-controls.true)
 
 pub returns-then-code-eq4 : goal.returns-then-code-eq4
-returns-then-code-eq4 c = rw (code-4 c.args.code c.if-code-eq4.true, ← (count-is c.args.n c.div_ceil-controls.ensures), le-leb _ _ c.if-body-controls.false)
+returns-then-code-eq4 c =
+    rw (code-4 c.args.code c.if-code-eq4.true, ← (count-is c.args.n c.div_ceil-controls.ensures), le-leb _ _ c.if-body-controls.false)
 
 pub returns-then-not-parts_fit : goal.returns-then-not-parts_fit
 returns-then-not-parts_fit c =
