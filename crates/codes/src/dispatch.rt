@@ -76,7 +76,7 @@ pub fn start_at(code: u8, body: &[u8], n: usize) -> Result<Position, Refusal>
 {
     let first = Position::from(Offset { byte: 0 });
     if code == 4 {
-        let controls = n / 4 + (n % 4 + 3) / 4;
+        let controls = n.div_ceil(4);
         if body.len() < controls {
             return Err(Refusal::CutShort);
         }

@@ -63,9 +63,7 @@ pub fn unit(body: &[u8], left: usize, at: Position) -> Result<UnitRead, Refusal>
     let mut numbers = [0u32; 16];
     let ends = 255 - u32::from(control);
     let start = Place { number: 0 };
-    let Some(end) = take_ends(body, head, ends, &sizes, &mut numbers, start) else {
-        return Err(Refusal::Broken);
-    };
+    let end = take_ends(body, head, ends, &sizes, &mut numbers, start).ok_or(Refusal::Broken)?;
     Ok(UnitRead {
         next: Position::from(Offset { byte: first + 9 }),
         count: end.number,

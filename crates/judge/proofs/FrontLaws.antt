@@ -7,7 +7,8 @@ use native.Mathlib.Nat.{zero-add}
 use lib.Dec.{eqb}
 use lib.ListN.{length, drop}
 use borrow.Author.Tests.{eq-eqb, ne_eqb}
-use Rattle.std.specs.Prelude.{Some, None}
+use Rattle.std.specs.Option.{MatchOption}
+use Rattle.std.specs.Prelude.{Option, Some, None}
 use Rattle.meaning.specs.Answer.{Answer, refused, need}
 use Rattle.meaning.specs.Limits.{plan_bytes, most_stages}
 use Rattle.meaning.specs.Lists.{all}
@@ -30,13 +31,19 @@ module _ (bytes : List ℕ) where
   formed-short h = and-not _ _ _ refl (ne_eqb _ _ h)
 
   module _ (l : length bytes ≡ plan_bytes) where
-    pub formed-bad : None ≡ good_end (plan_at most_stages bytes 0) 0 → false ≡ well_formed bytes
+    formed-bad : None ≡ good_end (plan_at most_stages bytes 0) 0 → false ≡ well_formed bytes
     unfolding well_formed plan_of
     formed-bad h = and_both _ _ _ _ refl (eq-eqb _ _ l) (and-not _ _ _ refl (good_none _ 0 h))
 
-    pub formed-end : {e : Offset} → Some e ≡ good_end (plan_at most_stages bytes 0) 0 → {b : Bool} → b ≡ all (eqb 0) (drop e.byte bytes) → b ≡ well_formed bytes
+    formed-end : {e : Offset} → Some e ≡ good_end (plan_at most_stages bytes 0) 0 → {b : Bool} → b ≡ all (eqb 0) (drop e.byte bytes) → b ≡ well_formed bytes
     unfolding well_formed plan_of
     formed-end is eb =
         let (g, s) = good-ends _ 0 is in
         let k = s ∙ zero-add _ in
         and_both _ _ _ _ refl (eq-eqb _ _ l) (and_both _ _ _ _ refl g (eb ∙ ap (λ (j : ℕ). all (eqb 0) (drop j bytes)) k))
+
+    -- blank after its end, if it has one
+    pub formed-is : {o : Option Offset} {b : Bool} → o ≡ good_end (plan_at most_stages bytes 0) 0
+        → MatchOption o (b ≡ false) (λ e. b ≡ all (eqb 0) (drop e.byte bytes)) → b ≡ well_formed bytes
+    formed-is {o = None} is h = h ∙ formed-bad is
+    formed-is {o = Some e} is h = formed-end is h

@@ -27,13 +27,8 @@ pub fn blank_from(plan: &[u8], at: Offset) -> bool
 pub fn well_formed(plan: &[u8]) -> bool
     ensures { result ≡ well_formed plan.now }
 {
-    if plan.len() != PLAN_BYTES {
-        return false;
-    }
-    match good_end(plan, Offset { byte: 0 }, MOST_STAGES) {
-        Some(end) => blank_from(plan, end),
-        None => false,
-    }
+    plan.len() == PLAN_BYTES
+        && good_end(plan, Offset { byte: 0 }, MOST_STAGES).is_some_and(|end| blank_from(plan, end))
 }
 
 // A plan judged for a kind that the caller knows: malformed, then not passed.

@@ -12,7 +12,7 @@ use meaning::{MOST_COLUMNS, PLAN_BYTES, Refusal};
 #[derive(Clone, Copy)]
 pub struct Order {
     pub kind: u8,
-    pub plan: [u8; 15],
+    pub plan: [u8; PLAN_BYTES],
     pub count: u32,
 }
 
@@ -30,9 +30,9 @@ pub fn write(
     if MOST_COLUMNS < n {
         return Err(Refusal::BadOrders);
     }
-    let mut kinds = [0u8; 16];
+    let mut kinds = [0u8; MOST_COLUMNS];
     let mut plans = [0u8; 240];
-    let mut counts = [0u32; 16];
+    let mut counts = [0u32; MOST_COLUMNS];
     for (i, o) in orders.iter().enumerate() {
         let at = PLAN_BYTES * i;
         kinds[i] = o.kind;

@@ -11,6 +11,7 @@ ghost use Rattle.plan_look.specs.Turns.{found_told, run_in, run_of, second_at};
 
 use crate::firsts::firsts_plan;
 use codes::{First, lookup_code, seek_code, total_code};
+use judge::MOST_STAGES;
 use judge::stage::{Stage, plan_end, stage_at};
 use meaning::{Offset, Place, Refusal};
 use stages::{Header, Sought, header_of, seek_in, total_of};
@@ -209,5 +210,5 @@ pub fn lookup_list(plan: &[u8], body: &[u8], n: usize, place: Place) -> Result<u
     requires { Looked body.now n place.number }
     ensures { says result ≡ look (plan_of plan.now) body.now n place.number }
 {
-    lookup_plan(plan, Offset { byte: 0 }, 3, body, n, place)
+    lookup_plan(plan, Offset { byte: 0 }, MOST_STAGES, body, n, place)
 }

@@ -9,6 +9,7 @@ ghost use Rattle.meaning.specs.Stages.{read};
 ghost use Rattle.stages.specs.Room.{Fits};
 
 use codes::read_code;
+use judge::MOST_STAGES;
 use judge::stage::{Stage, plan_end, stage_at};
 use meaning::{Offset, Place, Refusal};
 use stages::{header_of, raise, sum_up, unroll_into};
@@ -85,7 +86,7 @@ pub fn read_list(plan: &[u8], body: &[u8], n: usize, work: &mut [u32]) -> Result
     read_plan(
         plan,
         Offset { byte: 0 },
-        3,
+        MOST_STAGES,
         body,
         n,
         work,

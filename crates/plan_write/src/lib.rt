@@ -10,6 +10,7 @@ ghost use Rattle.meaning.specs.Plan.{plan_at, plan_of, runs_at};
 ghost use Rattle.plan_write.specs.Written.{Fit, FitRuns, Written};
 
 use codes::write_code;
+use judge::MOST_STAGES;
 use judge::stage::{Stage, plan_end, stage_at};
 use meaning::{Offset, Place};
 use stages::{gaps_into, least_of, less_into, runs_into};
@@ -128,7 +129,7 @@ pub fn write_list(plan: &[u8], work: &mut [u32], n: usize, out: &mut [u8], at: O
     write_plan(
         plan,
         Offset { byte: 0 },
-        3,
+        MOST_STAGES,
         work,
         Place { number: 0 },
         n,

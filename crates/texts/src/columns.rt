@@ -9,6 +9,7 @@ ghost use Rattle.texts.specs.Listing.{words, named, sized, Listable};
 ghost use Rattle.texts.specs.Written.{Puts};
 
 use crate::pieces::Page;
+use judge::MOST_STAGES;
 use judge::stage::plan_end;
 use meaning::{Offset, RISING};
 use table::entries::count_at;
@@ -49,7 +50,7 @@ fn put_plan(plan: &[u8], page: &mut Page)
     requires { (well_formed plan.now ≡ true) × (page.old.at.byte < 2 ^ 61) }
     ensures { Puts (words (map digits (unfilled plan.now))) 315 page.old page.new }
 {
-    let end = plan_end(plan, Offset { byte: 0 }, 3);
+    let end = plan_end(plan, Offset { byte: 0 }, MOST_STAGES);
     let size = end.byte;
     put_smalls(&plan[..size], page);
 }

@@ -6,7 +6,7 @@ ghost use Rattle.meaning.specs.Plan.{default_plan, plan_used};
 
 use judge::blank_from;
 use leaves::put;
-use meaning::{Offset, RISING};
+use meaning::{Offset, PLAN_BYTES, RISING};
 
 // The bytes of a slice are put at an offset of an output, as far as they lie within it.
 pub fn put_bytes(bytes: &[u8], out: &mut [u8], at: Offset)
@@ -21,7 +21,7 @@ pub fn put_bytes(bytes: &[u8], out: &mut [u8], at: Offset)
 
 // The default: 17 1 for kind 1, else 1.
 #[tactic(auto, unfolding(meaning::specs::Plan::default_plan))]
-fn default_plan(kind: u8) -> [u8; 15]
+fn default_plan(kind: u8) -> [u8; PLAN_BYTES]
     ensures { result ≡ default_plan kind }
 {
     if kind == RISING {
@@ -31,14 +31,14 @@ fn default_plan(kind: u8) -> [u8; 15]
 }
 
 // The plan really used where this one was ordered.
-pub fn used_plan(kind: u8, ordered: &[u8]) -> [u8; 15]
+pub fn used_plan(kind: u8, ordered: &[u8]) -> [u8; PLAN_BYTES]
     requires { length ordered.now ≡ plan_bytes }
     ensures { result ≡ plan_used kind ordered.now }
 {
     if blank_from(ordered, Offset { byte: 0 }) {
         return default_plan(kind);
     }
-    let mut plan = [0u8; 15];
+    let mut plan = [0u8; PLAN_BYTES];
     plan.copy_from_slice(ordered);
     plan
 }

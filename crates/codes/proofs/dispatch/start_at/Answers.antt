@@ -1,5 +1,5 @@
 -- Stream VByte begins behind its control bytes, every other code with the body; code 8 asks that its parts fit. Assumes nothing.
-use Prim.Native.Nat.{ℕ, ◌+◌, ◌/◌, ◌%◌}
+use Prim.Native.Nat.{ℕ, ◌+◌, ◌/◌, ◌%◌, min}
 use mathlib.Core.Path.{◌≡◌, sym, ap, ◌∙◌}
 use mathlib.Core.Bool.{not}
 use native.Mathlib.Omega.{arith}
@@ -8,16 +8,18 @@ use Rattle.meaning.specs.Groups.{group_count}
 use Rattle.codes.proofs.Numbered.{code-4, code-8, start-other}
 use Rattle.codes.proofs.dispatch.start_at.Goals as goal
 
--- the count of groups, of which no sum passes n
-count-is : (n : ℕ) → n / 4 + (n % 4 + 3) / 4 ≡ group_count n
+-- the count of groups
+count-is : (n : ℕ) {m : ℕ} → m ≡ n / 4 + min 1 (n % 4) → m ≡ group_count n
 unfolding group_count
-count-is n = omega arith
+count-is n e = omega (arith, e)
 
 pub returns-then-body-controls : goal.returns-then-body-controls
-returns-then-body-controls c = rw (code-4 c.args.code c.if-code-eq4.true, ← (count-is c.args.n), lt-leb _ _ c.if-body-controls.true)
+returns-then-body-controls c =
+    rw (code-4 c.args.code c.if-code-eq4.true, ← (count-is c.args.n c.div_ceil-controls.ensures), lt-leb _ _ c.if-body-controls.true)
 
 pub returns-then-code-eq4 : goal.returns-then-code-eq4
-returns-then-code-eq4 c = rw (code-4 c.args.code c.if-code-eq4.true, ← (count-is c.args.n), le-leb _ _ c.if-body-controls.false, c.from-first.ensures)
+returns-then-code-eq4 c =
+    rw (code-4 c.args.code c.if-code-eq4.true, ← (count-is c.args.n c.div_ceil-controls.ensures), le-leb _ _ c.if-body-controls.false, c.from-first.ensures)
 
 pub returns-then-not-parts_fit : goal.returns-then-not-parts_fit
 returns-then-not-parts_fit c =
