@@ -47,7 +47,8 @@ pub fn word_at(bytes: &[u8], at: Offset) -> u32
     requires { at.byte + 4 ≤ length bytes.now }
     ensures { result ≡ word_at bytes.now at.byte }
 {
-    number_at(bytes, at, 4)
+    let first = at.byte;
+    u32::from_le_bytes(<[u8; 4]>::try_from(&bytes[first..first + 4]).unwrap())
 }
 
 // The number in the 8 bytes from an offset on.
@@ -55,10 +56,8 @@ pub fn eight_at(bytes: &[u8], at: Offset) -> u64
     requires { at.byte + 8 ≤ length bytes.now }
     ensures { result ≡ number_of (take 8 (drop at.byte bytes.now)) }
 {
-    let low = word_at(bytes, at);
-    let middle = at.byte + 4;
-    let high = word_at(bytes, Offset { byte: middle });
-    u64::from(low) + 4294967296 * u64::from(high)
+    let first = at.byte;
+    u64::from_le_bytes(<[u8; 8]>::try_from(&bytes[first..first + 8]).unwrap())
 }
 
 // How many bytes the data of a list takes.
@@ -140,11 +139,7 @@ pub fn put_word(out: &mut [u8], at: Offset, x: u32)
     requires { at.byte + 4 < 2 ^ 64 }
     ensures { out.new ≡ sets out.old at.byte (word x) }
 {
-    let start = at.byte;
-    put(out, at, (x % 256) as u8);
-    put(out, Offset { byte: start + 1 }, (x / 256 % 256) as u8);
-    put(out, Offset { byte: start + 2 }, (x / 65536 % 256) as u8);
-    put(out, Offset { byte: start + 3 }, (x / 16777216 % 256) as u8);
+    put_number(out, at, x as usize, 4);
 }
 
 // Puts a number in so many bytes.
