@@ -3,7 +3,7 @@ use Prim.Native.Nat.{ℕ, suc, ◌+◌, ◌-◌, ◌*◌, ◌/◌, ◌%◌, ◌^
 use mathlib.Core.Path.{◌≡◌, refl, ap, ◌∙◌}
 use mathlib.Core.List.{List}
 use native.Mathlib.Nat.{add_assoc, div-div-eq-div-mul}
-use native.Mathlib.Numerals.{add-one, towards_suc}
+use native.Mathlib.Numerals.{add-one}
 use native.Mathlib.Omega.{arith}
 use lib.ListN.{length, get_or, take, drop, set, length-drop}
 use lib.Seq.{sets, drop-cons}
@@ -12,8 +12,7 @@ use Rattle.std.specs.Int.{w32, w64, from_le_bytes}
 use Rattle.std.proofs.lemmas.List.{take_all}
 use Rattle.meaning.specs.Bytes.{bytes_of, number_of}
 use Rattle.meaning.specs.DataBytes.{byte_length, fewest}
-use Rattle.meaning.specs.Places.{part}
-use Rattle.leaves.proofs.Parts.{part_length, part-each}
+use Rattle.leaves.proofs.Parts.{part_length}
 use Rattle.words.proofs.Bytes.{number-split}
 
 -- ---- read
@@ -105,12 +104,3 @@ module _ (out : List ℕ) (at x : ℕ) where
   pub fewest-4 : 16777216 ≤ x → (at + 4 ≡ at + byte_length x) × (put_4 ≡ sets out at (fewest x))
   unfolding fewest byte_length bytes_of
   fewest-4 c = rw (le-ltb x (2 ^ 8) (omega arith), le-ltb x (2 ^ 16) (omega arith), le-ltb x (2 ^ 24) c) (refl, rw (byte-4 x, byte-3 x, three, two, add-one at))
-
--- ---- the eight elements of a list from an offset on, stored one after another
-pub eight-stored : (list : List ℕ) (from : ℕ) (out : List ℕ) (to : ℕ) {a b c d e f g h : ℕ} → from + 8 ≤ length list
-    → a ≡ get_or list from 0 → b ≡ get_or list (from + 1) 0 → c ≡ get_or list (from + 2) 0 → d ≡ get_or list (from + 3) 0
-    → e ≡ get_or list (from + 4) 0 → f ≡ get_or list (from + 5) 0 → g ≡ get_or list (from + 6) 0 → h ≡ get_or list (from + 7) 0
-    → set (set (set (set (set (set (set (set out to a) (to + 1) b) (to + 2) c) (to + 3) d) (to + 4) e) (to + 5) f) (to + 6) g) (to + 7) h
-    ≡ sets out to (part list from 8)
-eight-stored list from out to inside ea eb ec ed ee ef eg eh =
-    rw (ea, eb, ec, ed, ee, ef, eg, eh, part-each 8 list from inside) (simp towards_suc refl)
