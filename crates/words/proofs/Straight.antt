@@ -3,16 +3,17 @@ use Prim.Native.Nat.{ℕ, suc, ◌+◌, ◌-◌, ◌*◌, ◌/◌, ◌%◌, ◌^
 use mathlib.Core.Path.{◌≡◌, refl, ap, ◌∙◌}
 use mathlib.Core.List.{List}
 use native.Mathlib.Nat.{add_assoc, div-div-eq-div-mul}
-use native.Mathlib.Numerals.{add-one}
+use native.Mathlib.Numerals.{add-one, towards_suc}
 use native.Mathlib.Omega.{arith}
 use lib.ListN.{length, get_or, take, drop, set, length-drop}
 use lib.Seq.{sets, drop-cons}
 use borrow.Author.Tests.{lt-ltb, le-ltb}
-use Rattle.std.specs.Int.{w32, w64, from_le_bytes}
+use Rattle.std.specs.Int.{w64, from_le_bytes}
 use Rattle.std.proofs.lemmas.List.{take_all}
 use Rattle.meaning.specs.Bytes.{bytes_of, number_of}
 use Rattle.meaning.specs.DataBytes.{byte_length, fewest}
-use Rattle.leaves.proofs.Parts.{part_length}
+use Rattle.meaning.specs.Places.{part}
+use Rattle.leaves.proofs.Parts.{part_length, part-each}
 use Rattle.words.proofs.Bytes.{number-split}
 
 -- ---- read
@@ -43,20 +44,12 @@ module _ (s : List ℕ) where
   number-4 at h = number-next at 3 (omega arith) ∙ omega (arith, number-3 (at + 1) (omega arith), later at 1, later at 2)
 
 -- ---- bytes that are read at once
-le-4 : (bs : List ℕ) → length bs ≡ 4 → from_le_bytes w32 bs ≡ number_of bs
-le-4 bs n = omega (arith, number-4 bs 0 (omega arith), ap number_of (take_all 4 bs (omega arith)))
-
 le-8 : (bs : List ℕ) → length bs ≡ 8 → from_le_bytes w64 bs ≡ number_of bs
 le-8 bs n =
     let high : take 4 (drop 4 bs) ≡ drop 4 bs = take_all 4 (drop 4 bs) (omega (arith, length-drop 4 bs)) in
     omega (arith, number-4 bs 0 (omega arith), number-4 bs 4 (omega arith), number-split 4 bs, ap number_of high)
 
 module _ (s : List ℕ) (at : ℕ) {bs : List ℕ} {w : ℕ} where
-  pub word-there : at + 4 ≤ length s → bs ≡ take (at + 4 - at) (drop at s) → w ≡ from_le_bytes w32 bs → w ≡ number_of (take 4 (drop at s))
-  word-there h e is =
-      let e₄ : bs ≡ take 4 (drop at s) = let n : at + 4 - at ≡ 4 = omega arith in rw n at e in
-      is ∙ le-4 bs (ap length e₄ ∙ part_length s at 4 h) ∙ ap number_of e₄
-
   pub eight-there : at + 8 ≤ length s → bs ≡ take (at + 8 - at) (drop at s) → w ≡ from_le_bytes w64 bs → w ≡ number_of (take 8 (drop at s))
   eight-there h e is =
       let e₈ : bs ≡ take 8 (drop at s) = let n : at + 8 - at ≡ 8 = omega arith in rw n at e in
@@ -104,3 +97,12 @@ module _ (out : List ℕ) (at x : ℕ) where
   pub fewest-4 : 16777216 ≤ x → (at + 4 ≡ at + byte_length x) × (put_4 ≡ sets out at (fewest x))
   unfolding fewest byte_length bytes_of
   fewest-4 c = rw (le-ltb x (2 ^ 8) (omega arith), le-ltb x (2 ^ 16) (omega arith), le-ltb x (2 ^ 24) c) (refl, rw (byte-4 x, byte-3 x, three, two, add-one at))
+
+-- ---- the eight elements of a list from an offset on, stored one after another
+pub eight-stored : (list : List ℕ) (from : ℕ) (out : List ℕ) (to : ℕ) {a b c d e f g h : ℕ} → from + 8 ≤ length list
+    → a ≡ get_or list from 0 → b ≡ get_or list (from + 1) 0 → c ≡ get_or list (from + 2) 0 → d ≡ get_or list (from + 3) 0
+    → e ≡ get_or list (from + 4) 0 → f ≡ get_or list (from + 5) 0 → g ≡ get_or list (from + 6) 0 → h ≡ get_or list (from + 7) 0
+    → set (set (set (set (set (set (set (set out to a) (to + 1) b) (to + 2) c) (to + 3) d) (to + 4) e) (to + 5) f) (to + 6) g) (to + 7) h
+    ≡ sets out to (part list from 8)
+eight-stored list from out to inside ea eb ec ed ee ef eg eh =
+    rw (ea, eb, ec, ed, ee, ef, eg, eh, part-each 8 list from inside) (simp towards_suc refl)

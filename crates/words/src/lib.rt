@@ -1,7 +1,7 @@
 // Numbers in bytes, least significant first: in the fewest that hold them, in 4, in 8, and in as many as are asked for.
 #![tactic(auto)]
 
-ghost use Rattle.std.specs.Prelude.{◌≡◌, ◌<◌, ◌+◌, ◌*◌, ◌≤◌, ◌^◌, IsTrue, length, set, take, drop};
+ghost use Rattle.std.specs.Prelude.{◌≡◌, ◌<◌, ◌+◌, ◌*◌, ◌≤◌, ◌^◌, length, take, drop};
 ghost use Rattle.std.proofs.lemmas.List.Edits.{sets};
 ghost use Rattle.meaning.specs.Bytes.{bytes_of, number_of, word, word_at};
 ghost use Rattle.meaning.specs.DataBytes.{byte_length, fewest, data_bytes};
@@ -22,6 +22,7 @@ pub fn byte_length(x: u32) -> usize
 }
 
 // The number in 1 to 4 bytes from an offset on.
+// kept: byte by byte, since how many there are is known at run time alone, and from_le_bytes needs all four.
 pub fn number_at(bytes: &[u8], at: Offset, len: usize) -> u32
     requires { (1 ≤ len) × (len ≤ 4) × (at.byte + len ≤ length bytes.now) }
     ensures { result ≡ number_of (take len (drop at.byte bytes.now)) }
@@ -43,12 +44,12 @@ pub fn number_at(bytes: &[u8], at: Offset, len: usize) -> u32
 }
 
 // The number in the 4 bytes from an offset on.
+// kept: by from_le_bytes of a slice of four, reading codes 2 and 4 costs a number 0.8 to 1 instruction more (7 to 8 %).
 pub fn word_at(bytes: &[u8], at: Offset) -> u32
     requires { at.byte + 4 ≤ length bytes.now }
     ensures { result ≡ word_at bytes.now at.byte }
 {
-    let first = at.byte;
-    u32::from_le_bytes(<[u8; 4]>::try_from(&bytes[first..first + 4]).unwrap())
+    number_at(bytes, at, 4)
 }
 
 // The number in the 8 bytes from an offset on.
@@ -73,50 +74,53 @@ pub fn data_length(list: &[u32]) -> usize
 }
 
 // A number is put in its fewest bytes. Answers where they end.
+// kept: its lines stand again in put_near, since one body with a const parameter writes codes 2 and 7 in 4 to 6 % more instructions.
 pub fn put_fewest(out: &mut [u8], at: Offset, x: u32) -> Offset
     requires { at.byte + 4 < 2 ^ 64 }
     ensures { (result.byte ≡ at.byte + byte_length x) × (out.new ≡ sets out.old at.byte (fewest x)) }
 {
-    if at.byte + 4 <= out.len() {
-        return put_some::<true>(out, at, x);
+    let start = at.byte;
+    if out.len() < start + 4 {
+        return put_near(out, at, x);
     }
-    put_some::<false>(out, at, x)
+    out[start] = (x % 256) as u8;
+    if x < 256 {
+        return Offset { byte: start + 1 };
+    }
+    out[start + 1] = (x / 256 % 256) as u8;
+    if x < 65536 {
+        return Offset { byte: start + 2 };
+    }
+    out[start + 2] = (x / 65536 % 256) as u8;
+    if x < 16777216 {
+        return Offset { byte: start + 3 };
+    }
+    out[start + 3] = (x / 16777216 % 256) as u8;
+    Offset { byte: start + 4 }
 }
 
-// A byte is put at an offset. INSIDE says that it lies within the output, so that no test asks for the output's end.
-fn put_byte<const INSIDE: bool>(out: &mut [u8], at: Offset, b: u8)
-    requires { IsTrue INSIDE → at.byte < length out.old }
-    ensures { out.new ≡ set out.old at.byte b }
-{
-    if INSIDE {
-        out[at.byte] = b;
-    } else {
-        put(out, at, b);
-    }
-}
-
-// The same, where INSIDE says whether four bytes lie within the output.
-fn put_some<const INSIDE: bool>(out: &mut [u8], at: Offset, x: u32) -> Offset
-    requires { (at.byte + 4 < 2 ^ 64) × (IsTrue INSIDE → at.byte + 4 ≤ length out.old) }
+// The same near the output's end: each byte is put where it lies within it.
+fn put_near(out: &mut [u8], at: Offset, x: u32) -> Offset
+    requires { at.byte + 4 < 2 ^ 64 }
     ensures { (result.byte ≡ at.byte + byte_length x) × (out.new ≡ sets out.old at.byte (fewest x)) }
 {
     let start = at.byte;
-    put_byte::<INSIDE>(out, at, (x % 256) as u8);
+    put(out, at, (x % 256) as u8);
     let second = Offset { byte: start + 1 };
     if x < 256 {
         return second;
     }
-    put_byte::<INSIDE>(out, second, (x / 256 % 256) as u8);
+    put(out, second, (x / 256 % 256) as u8);
     let third = Offset { byte: start + 2 };
     if x < 65536 {
         return third;
     }
-    put_byte::<INSIDE>(out, third, (x / 65536 % 256) as u8);
+    put(out, third, (x / 65536 % 256) as u8);
     let fourth = Offset { byte: start + 3 };
     if x < 16777216 {
         return fourth;
     }
-    put_byte::<INSIDE>(out, fourth, (x / 16777216 % 256) as u8);
+    put(out, fourth, (x / 16777216 % 256) as u8);
     Offset { byte: start + 4 }
 }
 
@@ -153,15 +157,28 @@ pub fn put_number(out: &mut [u8], at: Offset, x: usize, bytes: usize)
     }
 }
 
-// Stores eight bytes as numbers. They are read before any is stored, so that the compiler can do it at once.
+// Stores eight bytes as numbers.
+// kept: a loop over an array of them reads code 8's small numbers in 6.6 instructions each instead of 3.2.
 pub fn take_eight(body: &[u8], at: Offset, out: &mut [u32], to: Place)
     requires { (at.byte + 8 ≤ length body.now) × (to.number + 8 ≤ length out.old) }
     ensures { out.new ≡ sets out.old to.number (part body.now at.byte 8) }
 {
     let start = at.byte;
     let first = to.number;
-    let bytes = <[u8; 8]>::try_from(&body[start..start + 8]).unwrap();
-    for i in 0..8usize {
-        out[first + i] = u32::from(bytes[i]);
-    }
+    let a = u32::from(body[start]);
+    let b = u32::from(body[start + 1]);
+    let c = u32::from(body[start + 2]);
+    let d = u32::from(body[start + 3]);
+    let e = u32::from(body[start + 4]);
+    let f = u32::from(body[start + 5]);
+    let g = u32::from(body[start + 6]);
+    let h = u32::from(body[start + 7]);
+    out[first] = a;
+    out[first + 1] = b;
+    out[first + 2] = c;
+    out[first + 3] = d;
+    out[first + 4] = e;
+    out[first + 5] = f;
+    out[first + 6] = g;
+    out[first + 7] = h;
 }
