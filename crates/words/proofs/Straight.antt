@@ -1,17 +1,20 @@
 -- Numbers of 1 to 4 bytes, byte by byte, as straight-line code reads and puts them, and eight numbers stored at once. Assumes nothing.
-use Prim.Native.Nat.{ℕ, suc, ◌+◌, ◌*◌, ◌/◌, ◌%◌, ◌^◌, ◌≤◌, ◌<◌}
+use Prim.Native.Nat.{ℕ, suc, ◌+◌, ◌-◌, ◌*◌, ◌/◌, ◌%◌, ◌^◌, ◌≤◌, ◌<◌}
 use mathlib.Core.Path.{◌≡◌, refl, ap, ◌∙◌}
 use mathlib.Core.List.{List}
 use native.Mathlib.Nat.{add_assoc, div-div-eq-div-mul}
 use native.Mathlib.Numerals.{add-one, towards_suc}
 use native.Mathlib.Omega.{arith}
-use lib.ListN.{length, get_or, take, drop, set}
+use lib.ListN.{length, get_or, take, drop, set, length-drop}
 use lib.Seq.{sets, drop-cons}
 use borrow.Author.Tests.{lt-ltb, le-ltb}
-use Rattle.meaning.specs.Bytes.{bytes_of, number_of, word}
+use Rattle.std.specs.Int.{w64, from_le_bytes}
+use Rattle.std.proofs.lemmas.List.{take_all}
+use Rattle.meaning.specs.Bytes.{bytes_of, number_of}
 use Rattle.meaning.specs.DataBytes.{byte_length, fewest}
 use Rattle.meaning.specs.Places.{part}
-use Rattle.leaves.proofs.Parts.{part-each}
+use Rattle.leaves.proofs.Parts.{part_length, part-each}
+use Rattle.words.proofs.Bytes.{number-split}
 
 -- ---- read
 module _ (s : List ℕ) where
@@ -40,6 +43,18 @@ module _ (s : List ℕ) where
       → number_of (take 4 (drop at s)) ≡ get_or s at 0 + 256 * get_or s (at + 1) 0 + 65536 * get_or s (at + 2) 0 + 16777216 * get_or s (at + 3) 0
   number-4 at h = number-next at 3 (omega arith) ∙ omega (arith, number-3 (at + 1) (omega arith), later at 1, later at 2)
 
+-- ---- bytes that are read at once
+le-8 : (bs : List ℕ) → length bs ≡ 8 → from_le_bytes w64 bs ≡ number_of bs
+le-8 bs n =
+    let high : take 4 (drop 4 bs) ≡ drop 4 bs = take_all 4 (drop 4 bs) (omega (arith, length-drop 4 bs)) in
+    omega (arith, number-4 bs 0 (omega arith), number-4 bs 4 (omega arith), number-split 4 bs, ap number_of high)
+
+module _ (s : List ℕ) (at : ℕ) {bs : List ℕ} {w : ℕ} where
+  pub eight-there : at + 8 ≤ length s → bs ≡ take (at + 8 - at) (drop at s) → w ≡ from_le_bytes w64 bs → w ≡ number_of (take 8 (drop at s))
+  eight-there h e is =
+      let e₈ : bs ≡ take 8 (drop at s) = let n : at + 8 - at ≡ 8 = omega arith in rw n at e in
+      is ∙ le-8 bs (ap length e₈ ∙ part_length s at 8 h) ∙ ap number_of e₈
+
 -- ---- put
 -- the bytes of x are its quotients by the powers of 256
 byte-3 : (x : ℕ) → x / 256 / 256 ≡ x / 65536
@@ -66,10 +81,6 @@ module _ (out : List ℕ) (at x : ℕ) where
 
   abbrev put_4 : List ℕ
   put_4 = set put_3 (at + 3) (x / 16777216 % 256)
-
-  pub word-put : put_4 ≡ sets out at (word x)
-  unfolding word bytes_of
-  word-put = rw (byte-4 x, byte-3 x, three, two, add-one at)
 
   pub fewest-1 : x < 256 → (at + 1 ≡ at + byte_length x) × (put_1 ≡ sets out at (fewest x))
   unfolding fewest byte_length bytes_of

