@@ -66,9 +66,7 @@ fn last(b: u32, x: u32, next: Offset) -> Result<Number, Refusal>
 fn byte_at(body: &[u8], at: Offset) -> Result<u32, Refusal>
     ensures { MatchResult result (λ b. Byte body.now at.byte b) (λ e. Cut body.now at.byte e) }
 {
-    let Some(&b) = body.get(at.byte) else {
-        return Err(Refusal::CutShort);
-    };
+    let &b = body.get(at.byte).ok_or(Refusal::CutShort)?;
     Ok(u32::from(b))
 }
 
