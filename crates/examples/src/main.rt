@@ -2,24 +2,27 @@
 // numbers read.
 #![tactic(auto)]
 
-use meaning::Place;
+use meaning::{MOST_BYTES, MOST_NUMBERS, Place, Refusal};
 use std::io;
-
-fn number(rt: &impl Print, x: u64) -> io::Result<()> {
-    print!(rt; " {x}")
-}
 
 fn end(rt: &impl Print) -> io::Result<()> {
     rt.println("")
 }
 
+// 0 and the number that was given, or the refusal's number.
+fn answered(rt: &impl Print, answer: Result<u64, Refusal>) -> io::Result<()> {
+    match answer {
+        Ok(x) => print!(rt; " 0 {x}"),
+        Err(e) => print!(rt; " {e}"),
+    }
+}
+
 // The judge's number of a plan for a kind.
 fn judged(rt: &impl Print, name: &str, kind: u8, plan: &[u8]) -> io::Result<()> {
     rt.print(name)?;
-    let answer = judge::judge(kind, plan);
-    match answer {
-        Ok(()) => number(rt, 0)?,
-        Err(e) => number(rt, u64::from(u32::from(e)))?,
+    match judge::judge(kind, plan) {
+        Ok(()) => rt.print(" 0")?,
+        Err(e) => print!(rt; " {e}")?,
     }
     end(rt)
 }
@@ -27,32 +30,17 @@ fn judged(rt: &impl Print, name: &str, kind: u8, plan: &[u8]) -> io::Result<()> 
 // The worst size's number and its size.
 fn worst(rt: &impl Print, name: &str, plan: &[u8], n: usize) -> io::Result<()> {
     rt.print(name)?;
-    let answer = judge::worst_size(plan, n);
-    match answer {
-        Ok(size) => {
-            number(rt, 0)?;
-            number(rt, size as u64)?;
-        }
-        Err(e) => number(rt, u64::from(u32::from(e)))?,
-    }
+    answered(rt, judge::worst_size(plan, n).map(|size| size as u64))?;
     end(rt)
 }
 
 // A body read strictly by a plan: the number, and the last number of the list.
 fn read(rt: &impl Print, name: &str, plan: &[u8], body: &[u8], n: usize) -> io::Result<()> {
     rt.print(name)?;
-    if body.len() <= 65536 {
-        if n <= 1024 {
-            let mut work = [0u32; 7168];
-            let answer = plan_read::read_list(plan, body, n, &mut work);
-            match answer {
-                Ok(count) => {
-                    number(rt, 0)?;
-                    number(rt, count as u64)?;
-                }
-                Err(e) => number(rt, u64::from(u32::from(e)))?,
-            }
-        }
+    if body.len() <= MOST_BYTES && n <= MOST_NUMBERS {
+        let mut work = [0u32; 7168];
+        let answer = plan_read::read_list(plan, body, n, &mut work);
+        answered(rt, answer.map(|count| count as u64))?;
     }
     end(rt)
 }
@@ -67,19 +55,9 @@ fn looked(
     place: usize,
 ) -> io::Result<()> {
     rt.print(name)?;
-    if body.len() <= 65536 {
-        if n <= 1024 {
-            if place < n {
-                let answer = codes::lookup_code(code, body, n, Place { number: place });
-                match answer {
-                    Ok(x) => {
-                        number(rt, 0)?;
-                        number(rt, x as u64)?;
-                    }
-                    Err(e) => number(rt, u64::from(u32::from(e)))?,
-                }
-            }
-        }
+    if body.len() <= MOST_BYTES && n <= MOST_NUMBERS && place < n {
+        let answer = codes::lookup_code(code, body, n, Place { number: place });
+        answered(rt, answer.map(u64::from))?;
     }
     end(rt)
 }
@@ -94,19 +72,9 @@ fn looked_by(
     place: usize,
 ) -> io::Result<()> {
     rt.print(name)?;
-    if body.len() <= 65536 {
-        if n <= 1024 {
-            if place < n {
-                let answer = plan_look::lookup_list(plan, body, n, Place { number: place });
-                match answer {
-                    Ok(x) => {
-                        number(rt, 0)?;
-                        number(rt, x as u64)?;
-                    }
-                    Err(e) => number(rt, u64::from(u32::from(e)))?,
-                }
-            }
-        }
+    if body.len() <= MOST_BYTES && n <= MOST_NUMBERS && place < n {
+        let answer = plan_look::lookup_list(plan, body, n, Place { number: place });
+        answered(rt, answer.map(u64::from))?;
     }
     end(rt)
 }
