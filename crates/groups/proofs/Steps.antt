@@ -3,7 +3,7 @@ use Prim.Native.Nat.{ℕ, zero, suc, ◌+◌, ◌-◌, ◌*◌, ◌/◌, ◌%◌
 use mathlib.Core.Path.{◌≡◌, refl, sym, ap, ◌∙◌}
 use mathlib.Core.Bool.{Bool, true, false}
 use mathlib.Core.List.{List, [], ◌∷◌, ◌++◌, append_assoc, append-nil}
-use native.Mathlib.Nat.{div-one, add-zero, zero-add, add_assoc, sub-zero}
+use native.Mathlib.Nat.{div-one, add-zero, add_assoc, sub-zero}
 use native.Mathlib.Omega.{arith}
 use lib.Dec.{leb, eqb}
 use lib.ListN.{length, take, drop, set, replicate, length-append, length-drop}
@@ -75,9 +75,6 @@ pub record Summed (g : Grouping) (k c i control size : ℕ) : Type 0 where
   pub most : i ≤ k
   pub few : size ≤ 4 * i
   pub is : size + data_size g (k - i) control ≡ data_size g k c
-
-pub summed-start : (g : Grouping) (k c : ℕ) → Summed g k c 0 c 0
-summed-start g k c = record { most = omega arith; few = omega arith; is = rw (sub-zero k) (zero-add (data_size g k c)) }
 
 module _ {g : Grouping} {k c i control size : ℕ} (t : Summed g k c i control size) where
   pub summed_turn : {l : ℕ} → i < k → l ≡ g.bytes (control % 4) → l ≤ 4 → Summed g k c (i + 1) (control / 4) (size + l)

@@ -49,9 +49,6 @@ module _ (sheet : List ℕ) (e : Entry) {plan body w w₁ : List ℕ} {q : Resul
   column-stop {z} t = got-stop all 0 w w₁ q so (keep (edition_of sheet) e.kind) z t
 
   module _ {n : ℕ} (t : q ≡ Ok n) where
-    pub column-room : n ≤ length w₁
-    column-room = omega (arith, (got-given all 0 w w₁ q so n t).1, length-take n w₁)
-
     module _ {edition : ℕ} (known : edition ≡ edition_of sheet) where
       pub column-kept : true ≡ of_kind edition e.kind (part w₁ 0 n) → Got (read_column (column_of sheet e)) 0 w w₁ (Ok n)
       unfolding read_column

@@ -1,5 +1,5 @@
 -- What the loops that put bytes know: the bytes of numbers of a list, and a number in so many bytes. Assumes nothing.
-use Prim.Native.Nat.{ℕ, suc, ◌+◌, ◌-◌, ◌*◌, ◌/◌, ◌%◌, ◌≤◌, ◌<◌}
+use Prim.Native.Nat.{ℕ, suc, ◌+◌, ◌-◌, ◌/◌, ◌%◌, ◌≤◌, ◌<◌}
 use mathlib.Core.Path.{◌≡◌, refl, sym, ap, ◌∙◌}
 use mathlib.Core.List.{List, [], ◌∷◌, ◌++◌}
 use native.Mathlib.Nat.{add-zero, add_assoc, sub-zero}
@@ -7,11 +7,10 @@ use native.Mathlib.Omega.{arith}
 use lib.ListN.{length, set}
 use lib.Seq.{sets}
 use Rattle.meaning.specs.Bytes.{bytes_of}
-use Rattle.meaning.specs.DataBytes.{byte_length, fewest, data_bytes}
-use Rattle.meaning.specs.Places.{Wrote, part}
+use Rattle.meaning.specs.DataBytes.{byte_length, fewest}
+use Rattle.meaning.specs.Places.{Wrote}
 use Rattle.meaning.specs.declared.Offset.{Offset}
-use Rattle.words.proofs.DataBytes.{few-length, data-most}
-use Rattle.leaves.proofs.Parts.{part_length}
+use Rattle.words.proofs.DataBytes.{few-length}
 use Rattle.leaves.proofs.Putting.{Left, left-start, left-long, left-turn, left_end}
 
 -- ---- the bytes of n numbers, `bytes place count`, of which those from number i on are still to be put: putting them makes the whole
@@ -24,9 +23,6 @@ module _ (bytes : ℕ → ℕ → List ℕ) (from n at : ℕ) (out₀ : List ℕ
   put-start = record { most = omega arith; left = rw (add-zero from, sub-zero n) (left-start (bytes from n) at out₀) }
 
 module _ {bytes : ℕ → ℕ → List ℕ} {from n at : ℕ} {out₀ out : List ℕ} {to i : ℕ} (so : PutSo bytes from n at out₀ out to i) where
-  pub put-long : length out ≡ length out₀
-  put-long = left-long so.left
-
   -- those of k numbers have been put
   pub put-turn : (k : ℕ) {front out' : List ℕ} {to' : Offset} → i + k ≤ n → bytes (from + i) (n - i) ≡ front ++ bytes (from + i + k) (n - i - k)
       → Wrote front to out out' to' → PutSo bytes from n at out₀ out' to'.byte (i + k)
@@ -45,10 +41,6 @@ put_one {at = at} {out = out} e is = record { ends = refl; here = e ∙ ap (set 
 pub put-few : (x : ℕ) {at end : ℕ} {out out' : List ℕ} → (end ≡ at + byte_length x) × (out' ≡ sets out at (fewest x))
     → Wrote (fewest x) at out out' (record { byte = end })
 put-few x {at = at} e = record { ends = e.0 ∙ ap (λ (m : ℕ). at + m) (sym (few-length x)); here = e.1 }
-
--- the data of numbers of a list takes at most 4 bytes a number
-pub data-bound : (xs : List ℕ) (from n : ℕ) → from + n ≤ length xs → length (data_bytes (part xs from n)) ≤ 4 * n
-data-bound xs from n inside = omega (arith, data-most (part xs from n), part_length xs from n inside)
 
 -- ---- a number in so many bytes
 pub record NumberSo (x bytes at : ℕ) (out₀ out : List ℕ) (rest i : ℕ) : Type 0 where

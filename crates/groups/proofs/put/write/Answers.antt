@@ -24,9 +24,7 @@ loop-group-init c =
 
 pub data-requires : goal.data-requires
 data-requires c =
-    let n = length c.in-Some.group.now in
-    let few : n ≤ unit_places = omega (arith, c.in-Some.ensures.steps, c.most.ensures) in
-    (lays-room c.args.form c.loop-group.invariant.0 c.requires n few c.div_ceil-bytes.ensures).0
+    (lays-room c.args.form c.loop-group.invariant.0 c.requires _ (omega (arith, c.in-Some.ensures.steps, c.most.ensures)) c.div_ceil-bytes.ensures).0
 
 pub put_fielded-laid-requires : goal.put_fielded-laid-requires
 put_fielded-laid-requires c =
@@ -39,15 +37,11 @@ fields-requires c = fields-low c.put_fielded-laid.ensures
 
 pub put_number-requires : goal.put_number-requires
 put_number-requires c =
-    let n = length c.in-Some.group.now in
-    let few : n ≤ unit_places = omega (arith, c.in-Some.ensures.steps, c.most.ensures) in
-    (lays-room c.args.form c.loop-group.invariant.0 c.requires n few c.div_ceil-bytes.ensures).0
+    (lays-room c.args.form c.loop-group.invariant.0 c.requires _ (omega (arith, c.in-Some.ensures.steps, c.most.ensures)) c.div_ceil-bytes.ensures).0
 
 pub next-next-requires : goal.next-next-requires
 next-next-requires c =
-    let n = length c.in-Some.group.now in
-    let few : n ≤ unit_places = omega (arith, c.in-Some.ensures.steps, c.most.ensures) in
-    (lays-room c.args.form c.loop-group.invariant.0 c.requires n few c.div_ceil-bytes.ensures).0
+    (lays-room c.args.form c.loop-group.invariant.0 c.requires _ (omega (arith, c.in-Some.ensures.steps, c.most.ensures)) c.div_ceil-bytes.ensures).0
 
 pub loop-group-preserved : goal.loop-group-preserved
 loop-group-preserved c =
