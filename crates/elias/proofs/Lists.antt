@@ -57,6 +57,10 @@ module _ {f : Form} {list : List ℕ} {at : ℕ} {out₀ : List ℕ} where
           same = p.same (stream f (drop (i + 1) list)) ∙ ap (λ (l : List ℕ). sets out wait.at.byte (pack (waiting wait ++ l))) (sym next) ∙ w.same;
         }
 
+    -- no more numbers have been pushed than there are: the bits that wait can be put
+    pub write-rest : i ≤ length list → Free wait 0
+    write-rest h = record { few = w.few; low = omega (arith, w.near, w.asked.short) }
+
     pub write-end : {out' : List ℕ} {r : Offset} → length list ≤ i → Wrote (pack (waiting wait)) wait.at.byte out out' r
         → Wrote ((code_with f).write list) at out₀ out' r
     write-end h e =

@@ -45,7 +45,7 @@ abbrev least : List ℕ
 least = 0 ∷ 256 ∷ 65536 ∷ 16777216 ∷ []
 
 -- four bytes masked are the number of the first of them
-masked : (body : List ℕ) (at : ℕ) → Below 256 body → at + 4 ≤ length body → (f : ℕ) → f < 4
+pub masked : (body : List ℕ) (at : ℕ) → Below 256 body → at + 4 ≤ length body → (f : ℕ) → f < 4
     → bit_and (word_at body at) (get_or largest f 0) ≡ number_of (take (f + 1) (drop at body))
 unfolding word_at
 masked body at low h zero lt = and_mask (word_at body at) 8 ∙ omega (arith, number-4 body at h, number-1 body at (omega arith), low at)
@@ -164,7 +164,7 @@ module _ {body : List ℕ} {at i masks to : ℕ} {batch : List ℕ} (t : TakesBa
 
 -- ---- as a unit
 -- the one control byte of a full group of four
-four-at : (body : List ℕ) (at from c : ℕ) → at < length body → c ≡ get_or body at 0 → group_at fours body 4 at from ≡ group_from fours body 4 c from
+pub four-at : (body : List ℕ) (at from c : ℕ) → at < length body → c ≡ get_or body at 0 → group_at fours body 4 at from ≡ group_from fours body 4 c from
 unfolding group_at group_count
 four-at body at from c there byte =
     rw (le-leb 1 (length (drop at body)) (omega (arith, length-drop at body)), number-1 body at (omega arith), byte)

@@ -22,7 +22,7 @@ enough (suc k) (suc j) (suc y) h i =
     ap (λ (l : List ℕ). l ++ ((48 + suc y % 10) ∷ [])) (enough k j (suc y / 10) (omega arith) (omega arith))
 
 -- ---- one digit, and the lowest after the others
-digits-one : (x : ℕ) → x < 10 → digits x ≡ (48 + x) ∷ []
+pub digits-one : (x : ℕ) → x < 10 → digits x ≡ (48 + x) ∷ []
 unfolding digits decimal_in
 digits-one zero h = refl
 digits-one (suc y) h =
@@ -30,7 +30,7 @@ digits-one (suc y) h =
     let r : suc y % 10 ≡ suc y = omega arith in
     rw (q, r, enough y 0 0 (omega arith) (omega arith))
 
-digits_more : (x : ℕ) → 10 ≤ x → digits x ≡ digits (x / 10) ++ ((48 + x % 10) ∷ [])
+pub digits_more : (x : ℕ) → 10 ≤ x → digits x ≡ digits (x / 10) ++ ((48 + x % 10) ∷ [])
 unfolding digits decimal_in
 digits_more zero h = absurd (omega arith)
 digits_more (suc y) h =

@@ -16,13 +16,14 @@ use Rattle.meaning.specs.Limits.{broken, number_limit}
 use Rattle.meaning.specs.Lists.{sum, joined}
 use Rattle.meaning.specs.Bytes.{bytes_of, number_of}
 use Rattle.meaning.specs.DataBytes.{byte_length, fewest, data_bytes, data_in}
-use Rattle.meaning.specs.Places.{Below}
+use Rattle.meaning.specs.Places.{Below, part}
 use Rattle.meaning.proofs.Answers.{bind-given, need-given}
 use Rattle.meaning.proofs.Bounds.{below-nil, below-cons, below-append, below-take, below-drop}
 use Rattle.meaning.proofs.Lasting.{Lasts, lasts-given, lasts-rule, lasts-bind}
 use Rattle.meaning.proofs.Tests.{by_order}
 use Rattle.words.proofs.Bytes.{bytes-length, bytes_small, number-bytes, number_small, bytes-number}
 use Rattle.leaves.proofs.Joined.{joined-append, joined-next, joined-rest, joined-past}
+use Rattle.leaves.proofs.Parts.{part-cons}
 
 -- ---- how many bytes hold a number
 -- x lies between the powers that its length says
@@ -61,6 +62,11 @@ few-number x h = number-bytes (byte_length x) x ((held x).above h)
 pub data-cons : (x : ℕ) (xs : List ℕ) → data_bytes (x ∷ xs) ≡ fewest x ++ data_bytes xs
 unfolding data_bytes joined
 data-cons x xs = refl
+
+-- the data of a part of a list: its first number's, and the others'
+pub data-part : (xs : List ℕ) (from n : ℕ) → 0 < n → from + n ≤ length xs
+    → data_bytes (part xs from n) ≡ fewest (get_or xs from 0) ++ data_bytes (part xs (from + 1) (n - 1))
+data-part xs from n some inside = rw (part-cons xs from n some inside) (data-cons (get_or xs from 0) (part xs (from + 1) (n - 1)))
 
 pub data-append : (xs ys : List ℕ) → data_bytes (xs ++ ys) ≡ data_bytes xs ++ data_bytes ys
 unfolding data_bytes

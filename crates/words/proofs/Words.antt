@@ -1,15 +1,16 @@
 -- A number in 4 bytes: written, read and put together again, and two of them as one of 8. Assumes nothing.
-use Prim.Native.Nat.{ℕ, ◌+◌, ◌≤◌, ◌<◌}
+use Prim.Native.Nat.{ℕ, ◌+◌, ◌*◌, ◌≤◌, ◌<◌}
 use mathlib.Core.Path.{◌≡◌, sym, ap, ◌∙◌}
 use mathlib.Core.List.{List, ◌++◌}
 use native.Mathlib.Omega.{arith}
 use lib.ListN.{length, take, drop, length-append, length-drop, take-append-drop}
-use lib.Seq.{take_at, drop_at, drop-drop, length-take-le, take-append-le, drop-append-le}
+use lib.Seq.{take_at, drop_at, take-take, take-add, drop-drop, length-take-le, take-append-le, drop-append-le}
 use Rattle.meaning.specs.Bytes.{bytes_of, number_of, word, word_at}
 use Rattle.meaning.specs.Limits.{number_limit}
 use Rattle.meaning.specs.Places.{Below}
 use Rattle.meaning.proofs.Bounds.{below-take, below-drop}
-use Rattle.words.proofs.Bytes.{bytes-length, bytes_small, number-bytes, bytes-number}
+use Rattle.words.proofs.Bytes.{bytes-length, bytes_small, number-bytes, bytes-number, number-split}
+use Rattle.leaves.proofs.Parts.{part_length}
 
 module _ (x : ℕ) where
   pub word-length : length (word x) ≡ 4
@@ -50,6 +51,17 @@ word-whole body b h = ap (λ (l : List ℕ). l ++ drop 4 body) (word-at body 0 b
 pub word-drop : (bytes : List ℕ) (a b : ℕ) → word_at (drop a bytes) b ≡ word_at bytes (a + b)
 unfolding word_at
 word-drop bytes a b = rw drop-drop
+
+-- two words are a number of 8 bytes
+pub words-number : (s : List ℕ) (at : ℕ) → at + 8 ≤ length s → word_at s at + 4294967296 * word_at s (at + 4) ≡ number_of (take 8 (drop at s))
+unfolding word_at
+words-number s at h =
+    let a : take 4 (take 8 (drop at s)) ≡ take 4 (drop at s) = take-take 4 8 (drop at s) (omega arith) in
+    let b : drop 4 (take 8 (drop at s)) ≡ take 4 (drop (at + 4) s) =
+    ap (drop 4) (take-add 4 4 (drop at s)) ∙ drop_at (take 4 (drop at s)) (take 4 (drop 4 (drop at s))) 4 (part_length s at 4 (omega arith))
+    ∙ ap (take 4) (drop-drop 4 at s) in
+    let e = number-split 4 (take 8 (drop at s)) in
+    rw (← a, ← b) (omega arith)
 
 -- a number that is there is the same whatever follows
 pub word-stays : (body more : List ℕ) (at : ℕ) → at + 4 ≤ length body → word_at (body ++ more) at ≡ word_at body at
