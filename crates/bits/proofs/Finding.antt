@@ -5,7 +5,7 @@ use mathlib.Core.List.{List}
 use native.Mathlib.Omega.{arith}
 use lib.ListN.{length, take, drop, length-take, length-drop, take-append-drop}
 use lib.Seq.{length-take-le}
-use Rattle.std.specs.Prelude.{None}
+use Rattle.std.specs.Prelude.{Err}
 use Rattle.meaning.specs.Answer.{given, refused}
 use Rattle.meaning.specs.Bits.{bits_low, low_bits}
 use Rattle.meaning.specs.Limits.{no_place}
@@ -49,11 +49,12 @@ module _ (e k : ℕ) (bits : List ℕ) (m w : ℕ) {j : ℕ} (b : Below 2 bits) 
 -- ---- in so many words from an offset on
 module _ (bytes : List ℕ) (from words k : ℕ) where
   -- none of them holds it
-  pub none_in : Passes (low_bits (drop from bytes)) words k None → one_at no_place k (take (64 * words) (low_bits (drop from bytes))) ≡ refused no_place
+  pub none_in : {all : ℕ} → Passes (low_bits (drop from bytes)) words k (Err all)
+      → one_at no_place k (take (64 * words) (low_bits (drop from bytes))) ≡ refused no_place
   unfolding ones_before
-  none_in few =
+  none_in so =
       let bits = low_bits (drop from bytes) in
-      one_none no_place k (take (64 * words) bits) (below-take 2 (64 * words) bits (low_below (drop from bytes))) few
+      one_none no_place k (take (64 * words) bits) (below-take 2 (64 * words) bits (low_below (drop from bytes))) (rw (← so.0) so.1)
 
 module _ (bytes : List ℕ) (from : ℕ) {words k : ℕ} {p : Passed} {word : ℕ} (small : Below 256 bytes) (so : Holds (low_bits (drop from bytes)) words k p)
     (e : word ≡ word_near bytes (from + 8 * p.words)) where

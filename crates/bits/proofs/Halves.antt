@@ -4,7 +4,7 @@ use mathlib.Core.Path.{◌≡◌, refl, sym, ap, ap₂, ◌∙◌}
 use mathlib.Core.List.{List, [], ◌∷◌, ◌++◌}
 use native.Mathlib.Nat.{add-zero, one-mul, two-pow-succ, mod-lt}
 use native.Mathlib.Omega.{arith}
-use lib.Count.{ones}
+use lib.Count.{ones, ones-le}
 use lib.ListN.{length, get_or}
 use lib.Pow.{pow_pos, shl_exact}
 use Rattle.meaning.specs.Answer.{Answer, given, refused}
@@ -73,15 +73,18 @@ halved {e} {word} {k} {rest} {left} {bit} {i} so more =
     }
 
 module _ {e word k rest left bit half m : ℕ} (so : Halved e word k rest left bit half m) where
-  pub half-few : half < 64
-  half-few = omega (arith, so.inside, so.is, pow_pos m)
+  pub half-inside : half < 64
+  half-inside = omega (arith, so.inside, so.is, pow_pos m)
 
   mask_is : 1 * 2 ^ half % 2 ^ 64 ≡ 2 ^ half
-  mask_is = shifted_one half half-few
+  mask_is = shifted_one half half-inside
 
   -- how many ones the lower half has
-  half-ones : ones (rest % (1 * 2 ^ half % 2 ^ 64)) ≡ sum (bits_low half rest)
+  pub half-ones : ones (rest % (1 * 2 ^ half % 2 ^ 64)) ≡ sum (bits_low half rest)
   half-ones = ap (λ (x : ℕ). ones (rest % x)) mask_is ∙ low_ones half rest
+
+  pub half-few : ones (rest % (1 * 2 ^ half % 2 ^ 64)) ≤ half
+  half-few = omega (arith, ap (λ (x : ℕ). ones (rest % x)) mask_is, ones-le half (rest % 2 ^ half) (mod-lt rest (pow_pos half)))
 
   pub half-lower : left < ones (rest % (1 * 2 ^ half % 2 ^ 64)) → HalfSo e word k rest left bit m
   half-lower h =

@@ -1,5 +1,5 @@
 -- What passing words says: which word holds the k-th one.
-use Rattle.std.specs.Prelude.{ℕ, suc, ◌*◌, ◌≤◌, ◌<◌, ◌≡◌, List, Option, Some, None}
+use Rattle.std.specs.Prelude.{ℕ, suc, ◌*◌, ◌≤◌, ◌<◌, ◌≡◌, List, Result, Ok, Err}
 use Rattle.meaning.specs.Rank.{ones_before}
 use Rattle.bits.specs.declared.words_of.Passed.{Passed}
 
@@ -10,7 +10,7 @@ pub record Holds (bits : List ℕ) (words k : ℕ) (p : Passed) : Type 0 where
   pub few : p.ones ≤ k
   pub holds : k < ones_before bits (64 * suc p.words)
 
--- those before the word that holds the k-th one; none holds it where all have no more than k
-abbrev pub Passes : List ℕ → ℕ → ℕ → Option Passed → Type 0
-Passes bits words k (Some p) = Holds bits words k p
-Passes bits words k None = ones_before bits (64 * words) ≤ k
+-- those before the word that holds the k-th one; none holds it where all have no more than k, and then how many they have is told
+abbrev pub Passes : List ℕ → ℕ → ℕ → Result Passed ℕ → Type 0
+Passes bits words k (Ok p) = Holds bits words k p
+Passes bits words k (Err all) = (all ≡ ones_before bits (64 * words)) × (all ≤ k)

@@ -39,7 +39,9 @@ pub fn one_in(bytes: &[u8], from: Offset, words: usize, k: usize) -> Result<Bit,
     requires { from.byte + 8 * words < 2 ^ 32 }
     ensures { says_by bit_told result ≡ one_at no_place k (take (64 * words) (low_bits (drop from.byte bytes.now))) }
 {
-    let passed = pass_words(bytes, from, words, k).ok_or(Refusal::NoPlace)?;
+    let Ok(passed) = pass_words(bytes, from, words, k) else {
+        return Err(Refusal::NoPlace);
+    };
     let byte = from.byte + 8 * passed.words;
     let word = word_near(bytes, Offset { byte });
     let index = 64 * passed.words + bit_in(word, k - passed.ones);

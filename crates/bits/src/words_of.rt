@@ -56,8 +56,9 @@ pub fn ones_in(bytes: &[u8], from: Offset, words: usize) -> usize
     ones
 }
 
-// The words, of so many from an offset on, that come before the one that holds the k-th one, if any does. Every word is counted.
-pub fn pass_words(bytes: &[u8], from: Offset, words: usize, k: usize) -> Option<Passed>
+// The words, of so many from an offset on, that come before the one that holds the k-th one; where none does, how many ones they all have. Every word is
+// counted.
+pub fn pass_words(bytes: &[u8], from: Offset, words: usize, k: usize) -> Result<Passed, usize>
     requires { from.byte + 8 * words < 2 ^ 32 }
     ensures { Passes (low_bits (drop from.byte bytes.now)) words k result }
 {
@@ -76,9 +77,9 @@ pub fn pass_words(bytes: &[u8], from: Offset, words: usize, k: usize) -> Option<
         }
     }
     if passed.words == words {
-        return None;
+        return Err(passed.ones);
     }
-    Some(passed)
+    Ok(passed)
 }
 
 // The bit of the k-th one of a word, which has it: half of what is left is passed or not, six times.

@@ -14,15 +14,23 @@ use meaning::{ANY, Offset, RISING};
 pub fn good_end(plan: &[u8], at: Offset, stages: usize) -> Option<Offset>
     ensures { result ≡ good_end (plan_at stages plan.now at.byte) at.byte }
 {
-    match stage_at(plan, at, stages) {
-        Stage::Bad => None,
-        Stage::Code(_) => Some(Offset { byte: at.byte + 1 }),
-        Stage::Reference(next, less) | Stage::Differences(next, less) => {
-            good_end(plan, next, less)
-        }
-        Stage::Runs(next, less) => {
-            let second = good_end(plan, next, less)?;
-            good_end(plan, second, less)
+    let mut here = at;
+    let mut left = stages;
+    // A turn goes on to a stage's last plan: a call for each stage would take stack for each.
+    loop {
+        match stage_at(plan, here, left) {
+            Stage::Bad => return None,
+            Stage::Code(_) => return Some(Offset {
+                byte: here.byte + 1,
+            }),
+            Stage::Reference(next, less) | Stage::Differences(next, less) => {
+                here = next;
+                left = less;
+            }
+            Stage::Runs(next, less) => {
+                here = good_end(plan, next, less)?;
+                left = less;
+            }
         }
     }
 }
@@ -36,9 +44,13 @@ pub fn passes_plan(plan: &[u8], at: Offset, stages: usize, kind: u8) -> bool
         Stage::Code(_) => true,
         Stage::Reference(next, less) => passes_plan(plan, next, less, kind),
         Stage::Differences(next, less) => kind == RISING && passes_plan(plan, next, less, ANY),
+        // the second plan is sought only where the first passes
         Stage::Runs(next, less) => {
-            let second = plan_end(plan, next, less);
-            passes_plan(plan, next, less, kind) && passes_plan(plan, second, less, ANY)
+            passes_plan(plan, next, less, kind)
+                && {
+                    let second = plan_end(plan, next, less);
+                    passes_plan(plan, second, less, ANY)
+                }
         }
     }
 }

@@ -1,7 +1,8 @@
 // The places, offsets and answers in which every crate speaks. What each answer says in document 01's numbers is in specs/Says.antt.
 #![tactic(auto)]
 
-ghost use Rattle.std.specs.Prelude.{◌≡◌};
+ghost use Rattle.std.specs.Prelude.{◌≡◌, Some};
+ghost use Rattle.std.specs.Fmt.{decimal};
 ghost use Rattle.meaning.specs.Positions.{at_byte, at_bit};
 ghost use Rattle.meaning.specs.Says.{refusal_number};
 
@@ -72,6 +73,8 @@ impl From<Refusal> for u32 {
 
 // A refusal is shown by its number.
 impl fmt::Display for Refusal {
+    ghost output = { λ e. Some (decimal (refusal_number e)) };
+
     fn fmt<W: fmt::Write>(&self, f: &mut fmt::Formatter<W>) -> fmt::Result {
         write!(f, "{}", u8::from(*self))
     }
